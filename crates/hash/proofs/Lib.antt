@@ -1,0 +1,2 @@
+mod Poly
+mod Wrap

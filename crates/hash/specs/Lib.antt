@@ -1,0 +1,6 @@
+pub mod Strength
+pub mod Bytes
+pub mod Nh
+pub mod Hash
+pub mod Message
+pub mod Hasher
