@@ -1,2 +1,7 @@
+mod Ints
 mod Poly
 mod Wrap
+mod Turns
+mod Blocks
+mod Results
+mod Whole

@@ -1,5 +1,5 @@
 -- HS1-Hash and the joined results of its t runs (HS1-SIV draft v2, figures 2 and 3).
-use mathlib.Core.List.{List, [], _∷_, _++_}
+use mathlib.Core.List.{List, [], _∷_, _++_, map}
 use Prim.Native.Nat.{ℕ, zero, suc, _+_, _-_, _*_, _/_, _%_, _^_}
 use lib.ListN.{length, getD, take, drop}
 use Rattle.hash.specs.declared.Strength.{Strength}
@@ -49,16 +49,25 @@ result Lo kA h = str 8 h
 result Mid kA h = str 8 h
 result Hi kA h = affine kA h
 
--- hash i: sixteen words of kN from 4 i on, number i of kP, three numbers of kA from 3 i on
-unfoldable pub hash : Strength → (kN kP kA : List ℕ) (i : ℕ) → List ℕ → List ℕ
-hash s kN kP kA i m =
-    result s (take 3 (drop (3 * i) kA)) (h-of (take 16 (drop (4 * i) kN)) (getD kP i 0) m)
+-- how many bytes that is
+abbrev pub result-width : Strength → ℕ
+result-width Lo = 8
+result-width Mid = 8
+result-width Hi = 4
 
--- the results of the hashes below n, joined
-abbrev pub results : Strength → (kN kP kA : List ℕ) → ℕ → List ℕ → List ℕ
-results s kN kP kA zero m = []
-results s kN kP kA (suc n) m = results s kN kP kA n m ++ hash s kN kP kA n m
+-- h of hash i: sixteen words of kN from 4 i on, and number i of kP
+unfoldable pub h-at : (kN kP : List ℕ) → List ℕ → (i : ℕ) → ℕ
+h-at kN kP m i = h-of (take 16 (drop (4 * i) kN)) (getD kP i 0) m
+
+-- the results of the hashes below n, joined; h i is h of hash i, which uses three numbers of kA from 3 i on
+abbrev pub results : Strength → (kA : List ℕ) (h : ℕ → ℕ) → ℕ → List ℕ
+results s kA h zero = []
+results s kA h (suc n) = results s kA h n ++ result s (take 3 (drop (3 * n) kA)) (h n)
 
 -- the results of all t hashes, joined and padded to 32 bytes
 unfoldable pub hashed : Strength → (kN kP kA : List ℕ) → List ℕ → List ℕ
-hashed s kN kP kA m = pad 32 (results s kN kP kA (hashes s) m)
+hashed s kN kP kA m = pad 32 (results s kA (h-at kN kP m) (hashes s))
+
+-- numbers of kP, each modulo 2^60
+abbrev pub below60 : List ℕ → List ℕ
+below60 ks = map (λ k. k % 2 ^ 60) ks

@@ -5,11 +5,17 @@
 //! are never joined in a buffer.
 
 ghost use mathlib.Core.Path.{_≡_};
-ghost use Prim.Native.Nat.{ℕ, _+_, _-_, _*_, _/_, _%_, _^_, _<_, _≤_};
-ghost use lib.ListN.{length, getD};
+ghost use mathlib.Core.List.{List, [], _++_};
+ghost use Prim.Native.Nat.{ℕ, _+_, _-_, _*_, _/_, _%_, _^_, _<_, _≤_, min};
+ghost use lib.ListN.{length, getD, take, drop, replicate};
 ghost use Rattle.hash.specs.Strength.{hashes, siv-length, subkey-bytes};
 ghost use Rattle.hash.specs.Nh.{nh};
-ghost use Rattle.hash.specs.Hash.{turn};
+ghost use Rattle.hash.specs.Bytes.{ints, pad};
+ghost use Rattle.hash.specs.Hash.{turn, affine, block-number, result, result-width, results, hashed, below60};
+ghost use Rattle.hash.specs.Hasher.{nh-part, Below, Turns, Sound, Holds, Takes, Passes, ending};
+ghost use Rattle.hash.specs.Message.{message};
+ghost use borrow.Rule.Slice.PartMut.{putMid};
+ghost use Rattle.hash.specs.declared.HashKeys.{HashKeys};
 
 // How strong a sealing is: how many hashes, and how long a SIV.
 #[derive(Clone, Copy, PartialEq, Eq, Debug)]
@@ -116,4 +122,211 @@ fn poly_step(h: u64, k: u64, a: u64) -> u64
         digits /= 8;
     }
     (low + high / 0x2000_0000 + high % 0x2000_0000 * 0x1_0000_0000) % PRIME
+}
+
+// The last step of strength hi: the bytes that h becomes under three numbers.
+fn affine_bytes(k: &[u64], h: u64) -> [u8; 4]
+    requires { ⌜ length (now k) ≡ 3 ⌝ }
+    ensures { λ r. ⌜ r ≡ affine (now (k .entry)) h ⌝ }
+{
+    let low = k[1].wrapping_mul(h % 0x1_0000_0000);
+    let high = k[2].wrapping_mul(h / 0x1_0000_0000);
+    let sum = k[0].wrapping_add(low).wrapping_add(high);
+    ((sum / 0x1_0000_0000) as u32).to_le_bytes()
+}
+
+// The words of a block of 64 bytes.
+fn decode(block: &[u8]) -> [u32; 16]
+    requires { ⌜ length (now block) ≡ 64 ⌝ }
+    ensures { λ r. ⌜ r ≡ ints 4 (now (block .entry)) ⌝ }
+{
+    let mut words = [0; 16];
+    for i in 0..16 {
+        let bytes = [block[4 * i], block[4 * i + 1], block[4 * i + 2], block[4 * i + 3]];
+        words[i] = u32::from_le_bytes(bytes);
+    }
+    words
+}
+
+// At most 64 bytes, with zeros behind them.
+fn zero_filled(part: &[u8]) -> [u8; 64]
+    requires { ⌜ length (now part) ≤ 64 ⌝ }
+    ensures { λ r. ⌜ r ≡ now (part .entry) ++ replicate (64 - length (now (part .entry))) 0 ⌝ }
+{
+    let mut block = [0; 64];
+    block[0..part.len()].copy_from_slice(part);
+    block
+}
+
+// Turns the t running values by one block: its words, and its length modulo 16.
+fn turn_all(running: &mut [u64; 6], keys: &HashKeys, t: usize, words: &[u32], odd: u64)
+    requires { ⌜ t ≤ 6 ⌝ ∗ ⌜ length (now words) ≤ 16 ⌝ ∗ ⌜ odd < 16 ⌝ ∗ ⌜ Below (now running) ⌝ }
+    ensures { λ _. ⌜ Turns (now (keys .entry)) t (λ i. nh (nh-part (now (keys .entry)) i) (now (words .entry)) % 2 ^ 60 + odd) (now (running .entry)) (now (running .exit)) ⌝ }
+{
+    for i in 0..t {
+        let a = nh_sum(&keys.k_n[4 * i..4 * i + 16], words) % 0x1000_0000_0000_0000 + odd;
+        running[i] = poly_step(running[i], keys.k_p[i], a);
+    }
+}
+
+// The same for a block of 64 bytes.
+fn turn_block(running: &mut [u64; 6], keys: &HashKeys, t: usize, block: &[u8])
+    requires { ⌜ t ≤ 6 ⌝ ∗ ⌜ length (now block) ≡ 64 ⌝ ∗ ⌜ Below (now running) ⌝ }
+    ensures { λ _. ⌜ Turns (now (keys .entry)) t (λ i. block-number (nh-part (now (keys .entry)) i) (now (block .entry))) (now (running .entry)) (now (running .exit)) ⌝ }
+{
+    let words = decode(block);
+    turn_all(running, keys, t, &words[..], 0);
+}
+
+impl Hasher {
+    // A hash that has taken in nothing.
+    fn new() -> Hasher
+        ensures sound { λ r. ⌜ Sound r ⌝ }
+        ensures holds { λ r. ⌜ ((keys : HashKeys) (t : ℕ) → t ≤ 6 → Holds keys t r []) ⌝ }
+    {
+        Hasher {
+            block: [0; 64],
+            fill: 0,
+            running: [1; 6],
+        }
+    }
+
+    // Makes room where the block is full: more input is there.
+    fn flush(&mut self, keys: &HashKeys, t: usize)
+        requires { ⌜ t ≤ 6 ⌝ ∗ ⌜ Sound (now self) ⌝ }
+        ensures sound { λ _. ⌜ Sound (now (self .exit)) ⌝ }
+        ensures room { λ _. ⌜ now (self .exit) .fill < 64 ⌝ }
+        ensures goes { λ _. ⌜ Takes (now (keys .entry)) t (now (self .entry)) [] (now (self .exit)) ⌝ }
+    {
+        if self.fill == BLOCK {
+            turn_block(&mut self.running, keys, t, &self.block[..]);
+            self.fill = 0;
+        }
+    }
+
+    // Takes in a block of 64 bytes that more input follows, while none wait.
+    fn take_block(&mut self, keys: &HashKeys, t: usize, block: &[u8])
+        requires { ⌜ t ≤ 6 ⌝ ∗ ⌜ Sound (now self) ⌝ ∗ ⌜ now self .fill ≡ 0 ⌝ ∗ ⌜ length (now block) ≡ 64 ⌝ }
+        ensures sound { λ _. ⌜ Sound (now (self .exit)) ⌝ }
+        ensures goes { λ _. ⌜ Takes (now (keys .entry)) t (now (self .entry)) (now (block .entry)) (now (self .exit)) ⌝ }
+    {
+        turn_block(&mut self.running, keys, t, block);
+    }
+
+    // Takes as many bytes as the block has room for, and says how many.
+    fn take_some(&mut self, part: &[u8]) -> usize
+        requires { ⌜ Sound (now self) ⌝ }
+        ensures count { λ r. ⌜ r ≡ min (length (now (part .entry))) (64 - now (self .entry) .fill) ⌝ }
+        ensures sound { λ _. ⌜ Sound (now (self .exit)) ⌝ }
+        ensures goes { λ r. ⌜ ((keys : HashKeys) (t : ℕ) → Passes keys t (now (self .entry)) (take r (now (part .entry))) [] (now (self .exit))) ⌝ }
+    {
+        let fill = self.fill;
+        let count = part.len().min(BLOCK - fill);
+        self.block[fill..fill + count].copy_from_slice(&part[0..count]);
+        self.fill = fill + count;
+        count
+    }
+
+    // Takes some of the input at hand, which is not empty, and says how much.
+    fn take_next(&mut self, keys: &HashKeys, t: usize, part: &[u8]) -> usize
+        requires { ⌜ t ≤ 6 ⌝ ∗ ⌜ Sound (now self) ⌝ ∗ ⌜ 0 < length (now part) ⌝ }
+        ensures count { λ r. ⌜ (0 < r) × (r ≤ length (now (part .entry))) ⌝ }
+        ensures sound { λ _. ⌜ Sound (now (self .exit)) ⌝ }
+        ensures goes { λ r. ⌜ Passes (now (keys .entry)) t (now (self .entry)) (now (part .entry)) (drop r (now (part .entry))) (now (self .exit)) ⌝ }
+    {
+        self.flush(keys, t);
+        if self.fill == 0 && part.len() > BLOCK {
+            self.take_block(keys, t, &part[0..BLOCK]);
+            BLOCK
+        } else {
+            self.take_some(part)
+        }
+    }
+
+    // Takes in a part of the input.
+    fn absorb(&mut self, keys: &HashKeys, t: usize, part: &[u8])
+        requires { ⌜ t ≤ 6 ⌝ ∗ ⌜ Sound (now self) ⌝ }
+        ensures sound { λ _. ⌜ Sound (now (self .exit)) ⌝ }
+        ensures holds { λ _. ⌜ ((seen : List ℕ) → Holds (now (keys .entry)) t (now (self .entry)) seen → Holds (now (keys .entry)) t (now (self .exit)) (seen ++ now (part .entry))) ⌝ }
+    {
+        let mut at = 0;
+        while at < part.len() {
+            at += self.take_next(keys, t, &part[at..part.len()]);
+        }
+    }
+
+    // Takes in a part of the input, and zeros up to a multiple of 16 bytes.
+    fn absorb_padded(&mut self, keys: &HashKeys, t: usize, part: &[u8])
+        requires { ⌜ t ≤ 6 ⌝ ∗ ⌜ Sound (now self) ⌝ }
+        ensures sound { λ _. ⌜ Sound (now (self .exit)) ⌝ }
+        ensures holds { λ _. ⌜ ((seen : List ℕ) → Holds (now (keys .entry)) t (now (self .entry)) seen → Holds (now (keys .entry)) t (now (self .exit)) (seen ++ pad 16 (now (part .entry)))) ⌝ }
+    {
+        let zeros = [0; 16];
+        let count = (16 - part.len() % 16) % 16;
+        self.absorb(keys, t, part);
+        self.absorb(keys, t, &zeros[0..count]);
+    }
+
+    // Ends the input: turns by the last block, and leaves h of each hash.
+    fn finish(&mut self, keys: &HashKeys, t: usize)
+        requires { ⌜ t ≤ 6 ⌝ ∗ ⌜ Sound (now self) ⌝ }
+        ensures { λ _. ⌜ ((i : ℕ) → i < t → getD (now (self .exit) .running) i 0 ≡ ending (now (keys .entry)) (now (self .entry)) i []) ⌝ }
+    {
+        let fill = self.fill;
+        let last = zero_filled(&self.block[0..fill]);
+        let words = decode(&last);
+        let count = (fill + 15) / 16 * 4;
+        turn_all(&mut self.running, keys, t, &words[0..count], (fill % 16) as u64);
+    }
+}
+
+// Writes the result of hash i to its place in the joined results.
+fn write_result(out: &mut [u8; 32], strength: Strength, k: &[u64], h: u64, i: usize)
+    requires { ⌜ length (now k) ≡ 3 ⌝ ∗ ⌜ i < hashes strength ⌝ }
+    ensures { λ _. ⌜ now (out .exit) ≡ putMid (result-width strength * i) (result-width strength) (now (out .entry)) (result strength (now (k .entry)) h) ⌝ }
+{
+    match strength {
+        Strength::Lo | Strength::Mid => {
+            out[8 * i..8 * i + 8].copy_from_slice(&h.to_le_bytes());
+        }
+        Strength::Hi => {
+            out[4 * i..4 * i + 4].copy_from_slice(&affine_bytes(k, h));
+        }
+    }
+}
+
+// The results for h of each hash, joined and padded to 32 bytes.
+fn join(strength: Strength, k: &[u64; 18], h: &[u64; 6]) -> [u8; 32]
+    ensures { λ r. ⌜ r ≡ pad 32 (results strength (now (k .entry)) (λ i. getD (now (h .entry)) i 0) (hashes strength)) ⌝ }
+{
+    let mut out = [0; 32];
+    for i in 0..strength.hashes() {
+        write_result(&mut out, strength, &k[3 * i..3 * i + 3], h[i], i);
+    }
+    out
+}
+
+// HS1-Hash of an input: the t results, joined and padded to 32 bytes.
+pub fn hash(strength: Strength, keys: &HashKeys, input: &[u8]) -> [u8; 32]
+    ensures { λ r. ⌜ r ≡ hashed strength (now (keys .entry) .«k_n») (below60 (now (keys .entry) .«k_p»)) (now (keys .entry) .«k_a») (now (input .entry)) ⌝ }
+{
+    let t = strength.hashes();
+    let mut hasher = Hasher::new();
+    hasher.absorb(keys, t, input);
+    hasher.finish(keys, t);
+    join(strength, &keys.k_a, &hasher.running)
+}
+
+// HS1-Hash of what sealing hashes: header and text, each padded, and their lengths.
+pub fn hash_message(strength: Strength, keys: &HashKeys, header: &[u8], text: &[u8]) -> [u8; 32]
+    ensures { λ r. ⌜ r ≡ hashed strength (now (keys .entry) .«k_n») (below60 (now (keys .entry) .«k_p»)) (now (keys .entry) .«k_a») (message (now (header .entry)) (now (text .entry))) ⌝ }
+{
+    let t = strength.hashes();
+    let mut hasher = Hasher::new();
+    hasher.absorb_padded(keys, t, header);
+    hasher.absorb_padded(keys, t, text);
+    hasher.absorb(keys, t, &header.len().to_le_bytes());
+    hasher.absorb(keys, t, &text.len().to_le_bytes());
+    hasher.finish(keys, t);
+    join(strength, &keys.k_a, &hasher.running)
 }
