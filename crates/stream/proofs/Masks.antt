@@ -1,7 +1,7 @@
 -- Laws of `run` and `masked`.
 use mathlib.Core.Path.{_≡_, refl, sym, ap, _∙_}
 use mathlib.Core.List.{List, [], _∷_, _++_, append-assoc, append-nil}
-use Prim.Native.Nat.{ℕ, zero, suc, _+_, _-_, _*_, _<_, _≤_}
+use Prim.Native.Nat.{ℕ, zero, suc, _+_, _-_, _*_, _/_, _%_, _<_, _≤_}
 use native.Mathlib.Nat.{add-zero, add-suc, suc-add, zero-add}
 use native.Mathlib.Omega.{arith}
 use lib.ListN.{length, take, drop, getD}
@@ -9,7 +9,7 @@ use lib.Lanes.{zip2}
 use lib.Bits.{bitXor, xor-assoc, xor-self, xor-zero-r}
 use lib.Seq.{take-add}
 use borrow.Rule.Slice.PartMut.{putMid}
-use Rattle.std.proofs.shelf.Lists.{take-all, take-at, drop-at, drop-all, drop-drop, length-take-le, length-drop, length-append, take-append-drop}
+use Rattle.std.proofs.shelf.Lists.{take-all, take-at, drop-at, drop-all, drop-drop, length-take-le, length-drop, length-append, take-append-drop, ext-getD}
 use Rattle.stream.specs.Stream.{run, masked}
 
 module _ (f : ℕ → ℕ) where
@@ -75,7 +75,7 @@ module _ (f : ℕ → ℕ) where
       let back : drop a buf ≡ ys = ap (drop a) e ∙ drop-at xs ys a l in
       let mid : part ≡ masked f (p + a) (take n ys) = h ∙ ap (λ y. masked f (p + a) (take n y)) back in
       let all : masked f p (take (a + n) was) ≡ xs ++ masked f (p + a) (take n ys) =
-          ap (masked f p) (take-add a n was) ∙ masked-append p (take a was) (take n ys) ∙ ap (λ k. xs ++ masked f (p + k) (take n ys)) t in
+      ap (masked f p) (take-add a n was) ∙ masked-append p (take a was) (take n ys) ∙ ap (λ k. xs ++ masked f (p + k) (take n ys)) t in
       let rest : drop n ys ≡ drop (a + n) was = drop-drop n a was in
       ap (λ x. x ++ (part ++ drop n (drop a buf))) front
       ∙ ap (λ y. xs ++ (part ++ drop n y)) back
@@ -91,7 +91,7 @@ module _ (f : ℕ → ℕ) where
   pub block-part : (block xs : List ℕ) (i o n q : ℕ) → block ≡ run f (64 * i) 64 → o + n ≤ 64 → length xs ≡ n → 64 * i + o ≡ q → zip2 bitXor xs (take n (drop o block)) ≡ masked f q xs
   block-part block xs i o n q e h l is =
       let d : take n (drop o block) ≡ run f q n =
-          ap (λ b. take n (drop o b)) e ∙ ap (take n) (drop-run o (64 * i) 64) ∙ take-run n (64 * i + o) (64 - o) (omega arith) ∙ ap (λ p. run f p n) is in
+      ap (λ b. take n (drop o b)) e ∙ ap (take n) (drop-run o (64 * i) 64) ∙ take-run n (64 * i + o) (64 - o) (omega arith) ∙ ap (λ p. run f p n) is in
       ap (zip2 bitXor xs) d ∙ zip-run q n xs l
 
   -- one turn of the driver: n bytes under the block i from its byte o on
@@ -100,3 +100,13 @@ module _ (f : ℕ → ℕ) where
       let m : length buf ≡ length was = ap length e ∙ length-upto p was a in
       let l : length (take n (drop a buf)) ≡ n = length-take-le n (drop a buf) (omega (arith, length-drop a buf)) in
       part-more was buf part p a n le e (z ∙ block-part block (take n (drop a buf)) i o n (p + a) b h l is)
+
+-- a block of 64 bytes out of a stream that is given block by block
+pub run-block : (blocks : ℕ → List ℕ) (i : ℕ) → length (blocks i) ≡ 64 → blocks i ≡ run (λ p. getD (blocks (p / 64)) (p % 64) 0) (64 * i) 64
+run-block blocks i l =
+    let f : ℕ → ℕ = λ p. getD (blocks (p / 64)) (p % 64) 0 in
+    ext-getD 0 (blocks i) (run f (64 * i) 64) (l ∙ sym (length-run f (64 * i) 64))
+    (λ k h.
+    let q : i ≡ (64 * i + k) / 64 = omega arith in
+    let r : k ≡ (64 * i + k) % 64 = omega arith in
+    ap (λ j. getD (blocks j) k 0) q ∙ ap (λ j. getD (blocks ((64 * i + k) / 64)) j 0) r ∙ sym (getD-run f (64 * i) 64 k 0 (omega arith)))

@@ -18,7 +18,7 @@ step f was buf part block p a n lt le e same is b z =
     let o : (p + a) % 64 + n ≤ 64 = omega arith in
     let q : 64 * ((p + a) / 64) + (p + a) % 64 ≡ p + a = omega arith in
     let y : part ≡ zip2 bitXor (take n (drop a buf)) (take n (drop ((p + a) % 64) block)) =
-        z ∙ ap (λ m. zip2 bitXor (take m (drop a buf)) (take (((p + a) % 64 + n) - (p + a) % 64) (drop ((p + a) % 64) block))) k ∙ ap (λ m. zip2 bitXor (take n (drop a buf)) (take m (drop ((p + a) % 64) block))) j in
+    z ∙ ap (λ m. zip2 bitXor (take m (drop a buf)) (take (((p + a) % 64 + n) - (p + a) % 64) (drop ((p + a) % 64) block))) k ∙ ap (λ m. zip2 bitXor (take n (drop a buf)) (take m (drop ((p + a) % 64) block))) j in
     (more, ap (λ m. putMid a m buf part) k ∙ turn f was buf part block p a n ((p + a) / 64) ((p + a) % 64) more e b o q y)
 
 pub loop-at-again : need.loop-at-again
