@@ -1,8 +1,9 @@
 //! HS1-SIV (draft v2), ChaCha (RFC 8439) and AES-256 (FIPS 197) in plain Rust.
 //!
-//! A second program beside the proved one, written from the standards alone,
-//! so that the two can be compared by running them. Build with
-//! `rustc -O --edition 2021 hs1.rs`.
+//! A second program beside the proved one, written from the standards and not
+//! from that code, so that the two can be compared by running them. Suite 4 and
+//! the numbers of the refusals are in no standard: they are the project's own.
+//! Build with `rustc -O --edition 2021 hs1.rs`.
 //!
 //!     hs1 cases      print a fixed list of sealed cases
 //!     hs1 check      read such lines, say how many agree
