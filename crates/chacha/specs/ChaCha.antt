@@ -22,12 +22,12 @@ line a b d n s =
     set t d (rotl n (bitXor (getD t d 0) (getD t a 0)))
 
 -- QUARTERROUND(a, b, c, d) on the state (section 2.2).
-unfoldable pub quarterRound : (a b c d : ℕ) → List ℕ → List ℕ
+abbrev pub quarterRound : (a b c d : ℕ) → List ℕ → List ℕ
 quarterRound a b c d s = line c d b 7 (line a b d 8 (line c d b 12 (line a b d 16 s)))
 
 -- Two rounds: four quarter rounds on the columns, four on the diagonals
 -- (section 2.3). The first to be done stands innermost.
-unfoldable pub doubleRound : List ℕ → List ℕ
+abbrev pub doubleRound : List ℕ → List ℕ
 doubleRound s =
     quarterRound 3 4 9 14 (quarterRound 2 7 8 13 (quarterRound 1 6 11 12 (quarterRound 0 5 10 15
     (quarterRound 3 7 11 15 (quarterRound 2 6 10 14 (quarterRound 1 5 9 13 (quarterRound 0 4 8 12 s)))))))
@@ -61,7 +61,7 @@ start key nonce count = 0x61707865 ∷ 0x3320646e ∷ 0x79622d32 ∷ 0x6b206574 
 
 -- The block function (section 2.3) with 2 n rounds in the place of 20: the
 -- double rounds, and then the state that they began with added word by word.
-unfoldable pub mixed : (n : ℕ) → List ℕ → List ℕ
+abbrev pub mixed : (n : ℕ) → List ℕ → List ℕ
 mixed n s = zip2 add32 (doubleRounds n s) s
 
 unfoldable pub block : (n : ℕ) (key nonce : List ℕ) (count : ℕ) → List ℕ
