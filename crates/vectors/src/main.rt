@@ -1,0 +1,152 @@
+//! Runs outside vectors through the library and counts how many agree.
+//!
+//! Standard input has a case to a line, its fields parted by single spaces,
+//! bytes in hexadecimal (`-` for none) and places in decimal:
+//!
+//! - `# TITLE` begins a group of cases;
+//! - `STREAM seed nonce place bytes`: those bytes stand there in the stream;
+//! - `xor STREAM seed nonce place text masked`: the text is masked to that.
+//!
+//! A group's line on standard output says how many of its cases agree.
+
+mod hex;
+
+use chacha::ChaCha;
+use chacha::ChaChaStream;
+use hex::decode;
+use hex::encode;
+use std::alloc::Global;
+use std::error::AnyError;
+use stream::Stream;
+
+// How many of a group's cases agree.
+#[derive(Clone, Copy)]
+struct Tally {
+    cases: u32,
+    agree: u32,
+}
+
+impl Tally {
+    fn count(&mut self, agrees: bool) {
+        self.cases = self.cases.saturating_add(1);
+        if agrees {
+            self.agree = self.agree.saturating_add(1);
+        }
+    }
+}
+
+// The ChaCha that a name stands for.
+fn chacha(name: &str) -> Result<ChaCha, AnyError> {
+    let rounds = match name {
+        "chacha8" => 8,
+        "chacha12" => 12,
+        "chacha20" => 20,
+        _ => return Err("no stream has that name".into()),
+    };
+    match ChaCha::new(rounds) {
+        Ok(stream) => Ok(stream),
+        Err(_) => Err("ChaCha has not that round count".into()),
+    }
+}
+
+fn seed_of(bytes: &[u8]) -> Result<[u8; 32], AnyError> {
+    if bytes.len() != 32 {
+        return Err("a seed has 32 bytes".into());
+    }
+    let mut seed = [0; 32];
+    seed.copy_from_slice(bytes);
+    Ok(seed)
+}
+
+fn nonce_of(bytes: &[u8]) -> Result<[u8; 12], AnyError> {
+    if bytes.len() != 12 {
+        return Err("a nonce has 12 bytes".into());
+    }
+    let mut nonce = [0; 12];
+    nonce.copy_from_slice(bytes);
+    Ok(nonce)
+}
+
+// Whether a stream masks the text to what is expected.
+fn masks(
+    heap: Global,
+    name: &str,
+    seed: &str,
+    nonce: &str,
+    place: &str,
+    mut text: Vec<u8>,
+    expected: &str,
+) -> Result<bool, AnyError> {
+    let seed = seed_of(&decode(heap, seed)?)?;
+    let nonce = nonce_of(&decode(heap, nonce)?)?;
+    let expected = decode(heap, expected)?;
+    let done = chacha(name)?.xor(&seed, &nonce, place.parse::<u32>()?, &mut text);
+    Ok(done.is_ok() && text.as_slice() == expected.as_slice())
+}
+
+// Whether a case agrees.
+fn agrees(heap: Global, line: &str) -> Result<bool, AnyError> {
+    let fields: Vec<&str> = line.split(' ').collect(heap)?;
+    match fields.as_slice() {
+        ["xor", name, seed, nonce, place, text, masked] => {
+            let text = decode(heap, text)?;
+            masks(heap, name, seed, nonce, place, text, masked)
+        }
+        [name, seed, nonce, place, bytes] => {
+            let zeros = vec![in heap; 0u8; decode(heap, bytes)?.len()]?;
+            masks(heap, name, seed, nonce, place, zeros, bytes)
+        }
+        _ => Err("a line that is no case".into()),
+    }
+}
+
+// Prints what became of a group.
+fn report(rt: &LibcRuntime, title: &str, tally: Tally) -> Result<(), AnyError> {
+    let Tally { cases, agree } = tally;
+    if cases > 0 {
+        println!(rt, "{title}: {agree} of {cases} agree")?;
+    }
+    Ok(())
+}
+
+// Runs the cases on standard input, group by group.
+fn run_cases(rt: &LibcRuntime) -> Result<(), AnyError> {
+    let mut title = String::new(rt.alloc());
+    let mut tally = Tally { cases: 0, agree: 0 };
+    for line in rt.lines(rt.alloc()) {
+        let line = line?;
+        match line.as_str().strip_prefix("# ") {
+            Some(name) => {
+                report(rt, title.as_str(), tally)?;
+                tally = Tally { cases: 0, agree: 0 };
+                title = String::from_str(rt.alloc(), name)?;
+            }
+            None => tally.count(agrees(rt.alloc(), line.as_str())?),
+        }
+    }
+    report(rt, title.as_str(), tally)
+}
+
+// Masks a short text, shows it, and unmasks it again.
+fn show_masking(rt: &LibcRuntime) -> Result<(), AnyError> {
+    let stream = chacha("chacha12")?;
+    let text = "(panel 7 (cloth 2))";
+    let mut buf = text.as_bytes().to_vec(rt.alloc())?;
+    let masked = stream.xor(&[1; 32], &[2; 12], 64, &mut buf).is_ok();
+    let hex = encode(rt.alloc(), &buf)?;
+    println!(rt, "{text} masked with chacha12 from place 64 on: {hex}")?;
+    let unmasked = stream.xor(&[1; 32], &[2; 12], 64, &mut buf).is_ok();
+    if masked && unmasked && buf.as_slice() == text.as_bytes() {
+        println!(rt, "and masked again it is {text}")?;
+    }
+    Ok(())
+}
+
+fn run(rt: &LibcRuntime) -> Result<(), AnyError> {
+    run_cases(rt)?;
+    show_masking(rt)
+}
+
+fn main(rt: LibcRuntime) -> Result<(), AnyError> {
+    rt.report(run(&rt))
+}
