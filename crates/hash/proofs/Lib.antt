@@ -1,7 +1,7 @@
-mod Ints
+pub mod Ints
 mod Poly
 mod Wrap
 mod Turns
 mod Blocks
 mod Results
-mod Whole
+pub mod Whole

@@ -34,6 +34,12 @@ results-same s k g h (suc n) e =
     ap (λ x. x ++ result s (take 3 (drop (3 * n) k)) (g n)) (results-same s k g h n (λ i l. e i (omega arith)))
     ∙ ap (λ x. results s k h n ++ result s (take 3 (drop (3 * n) k)) x) (e n (omega arith))
 
+pub results-parts : (s : Strength) (k l : List ℕ) (h : ℕ → ℕ) (n : ℕ) → ((i : ℕ) → i < n → take 3 (drop (3 * i) k) ≡ take 3 (drop (3 * i) l)) → results s k h n ≡ results s l h n
+results-parts s k l h zero e = refl
+results-parts s k l h (suc n) e =
+    ap (λ x. x ++ result s (take 3 (drop (3 * n) k)) (h n)) (results-parts s k l h n (λ i lt. e i (omega arith)))
+    ∙ ap (λ x. results s l h n ++ result s x (h n)) (e n (omega arith))
+
 -- bytes written over the first of the zeros
 pub write-more : (a w n : ℕ) (front ys : List ℕ) → length front ≡ a → putMid a w (front ++ replicate n 0) ys ≡ (front ++ ys) ++ replicate (n - w) 0
 write-more a w n front ys e =

@@ -13,6 +13,7 @@ ghost use Rattle.hash.specs.Nh.{nh};
 ghost use Rattle.hash.specs.Bytes.{ints, pad};
 ghost use Rattle.hash.specs.Hash.{turn, affine, block-number, result, result-width, results, hashed, below60};
 ghost use Rattle.hash.specs.Hasher.{nh-part, Below, Turns, Sound, Holds, Takes, Passes, ending};
+ghost use Rattle.hash.specs.Subkeys.{Reads};
 ghost use Rattle.hash.specs.Message.{message};
 ghost use borrow.Rule.Slice.PartMut.{putMid};
 ghost use Rattle.hash.specs.declared.HashKeys.{HashKeys};
@@ -135,17 +136,47 @@ fn affine_bytes(k: &[u64], h: u64) -> [u8; 4]
     ((sum / 0x1_0000_0000) as u32).to_le_bytes()
 }
 
-// The words of a block of 64 bytes.
-fn decode(block: &[u8]) -> [u32; 16]
-    requires { ⌜ length (now block) ≡ 64 ⌝ }
-    ensures { λ r. ⌜ r ≡ ints 4 (now (block .entry)) ⌝ }
+// Reads words of 4 bytes, as many as there is room for.
+fn read_words(bytes: &[u8], out: &mut [u32])
+    requires { ⌜ length (now bytes) ≡ 4 * length (now out) ⌝ }
+    ensures { λ _. ⌜ now (out .exit) ≡ ints 4 (now (bytes .entry)) ⌝ }
 {
-    let mut words = [0; 16];
-    for i in 0..16 {
-        let bytes = [block[4 * i], block[4 * i + 1], block[4 * i + 2], block[4 * i + 3]];
-        words[i] = u32::from_le_bytes(bytes);
+    for i in 0..out.len() {
+        let word = [bytes[4 * i], bytes[4 * i + 1], bytes[4 * i + 2], bytes[4 * i + 3]];
+        out[i] = u32::from_le_bytes(word);
     }
-    words
+}
+
+// Reads numbers of 8 bytes, as many as there is room for.
+fn read_numbers(bytes: &[u8], out: &mut [u64])
+    requires { ⌜ length (now bytes) ≡ 8 * length (now out) ⌝ }
+    ensures { λ _. ⌜ now (out .exit) ≡ ints 8 (now (bytes .entry)) ⌝ }
+{
+    for i in 0..out.len() {
+        let low = [bytes[8 * i], bytes[8 * i + 1], bytes[8 * i + 2], bytes[8 * i + 3]];
+        let high = [bytes[8 * i + 4], bytes[8 * i + 5], bytes[8 * i + 6], bytes[8 * i + 7]];
+        out[i] = u32::from_le_bytes(low) as u64 + u32::from_le_bytes(high) as u64 * 0x1_0000_0000;
+    }
+}
+
+impl HashKeys {
+    // Reads the subkeys of the hash from the bytes that a stream gives for a
+    // key. Of these the first 32 are KS, which is not the hash's.
+    pub fn read(strength: Strength, bytes: &[u8; 368]) -> HashKeys
+        ensures { λ r. ⌜ Reads strength (now (bytes .entry)) r ⌝ }
+    {
+        let t = strength.hashes();
+        let words = 12 + 4 * t;
+        let points = 32 + 4 * words;
+        let scales = points + 8 * t;
+        let mut k_n = [0; 36];
+        let mut k_p = [0; 6];
+        let mut k_a = [0; 18];
+        read_words(&bytes[32..points], &mut k_n[0..words]);
+        read_numbers(&bytes[points..scales], &mut k_p[0..t]);
+        read_numbers(&bytes[scales..scales + 24 * t], &mut k_a[0..3 * t]);
+        HashKeys { k_n, k_p, k_a }
+    }
 }
 
 // At most 64 bytes, with zeros behind them.
@@ -174,8 +205,9 @@ fn turn_block(running: &mut [u64; 6], keys: &HashKeys, t: usize, block: &[u8])
     requires { ⌜ t ≤ 6 ⌝ ∗ ⌜ length (now block) ≡ 64 ⌝ ∗ ⌜ Below (now running) ⌝ }
     ensures { λ _. ⌜ Turns (now (keys .entry)) t (λ i. block-number (nh-part (now (keys .entry)) i) (now (block .entry))) (now (running .entry)) (now (running .exit)) ⌝ }
 {
-    let words = decode(block);
-    turn_all(running, keys, t, &words[..], 0);
+    let mut words = [0; 16];
+    read_words(block, &mut words);
+    turn_all(running, keys, t, &words, 0);
 }
 
 impl Hasher {
@@ -274,7 +306,8 @@ impl Hasher {
     {
         let fill = self.fill;
         let last = zero_filled(&self.block[0..fill]);
-        let words = decode(&last);
+        let mut words = [0; 16];
+        read_words(&last, &mut words);
         let count = (fill + 15) / 16 * 4;
         turn_all(&mut self.running, keys, t, &words[0..count], (fill % 16) as u64);
     }

@@ -10,4 +10,4 @@ pub returns : need.returns
 returns c =
     let keys = c .args .keys .now in
     let b = c .args .block .now in
-    turns-same keys (c .args .t) _ (λ i. block-number (nh-part keys i) b) _ _ (λ i. ap (λ x. nh (nh-part keys i) x % 2 ^ 60 + 0) (c .decode-words .ensures) ∙ whole-number (nh-part keys i) b (c .pre .1 .0)) (c .turn-all .ensures)
+    turns-same keys (c .args .t) _ (λ i. block-number (nh-part keys i) b) _ _ (λ i. ap (λ x. nh (nh-part keys i) x % 2 ^ 60 + 0) (c .read-words .ensures) ∙ whole-number (nh-part keys i) b (c .pre .1 .0)) (c .turn-all .ensures)

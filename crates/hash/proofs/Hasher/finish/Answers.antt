@@ -10,4 +10,4 @@ returns c =
     let s = c .args .self .now in
     let fits = c .pre .1 .fill-fits in
     let b : length (s .block) ≡ 64 = search needs in
-    last-turned (c .args .keys .now) (c .args .t) s (c .turn-all .last .running) _ _ (omega arith) fits (finish-words s (c .decode-words .result) (c .zero-filled-last .result) fits (omega arith) (c .zero-filled-last .ensures) (c .decode-words .ensures)) refl (c .turn-all .ensures)
+    last-turned (c .args .keys .now) (c .args .t) s (c .turn-all .last .running) _ _ (omega arith) fits (finish-words s (c .read-words .last .out) (c .zero-filled-last .result) fits (omega arith) (c .zero-filled-last .ensures) (c .read-words .ensures)) refl (c .turn-all .ensures)
