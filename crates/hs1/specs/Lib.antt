@@ -1,0 +1,5 @@
+pub mod Hs1
+pub mod Seal
+pub mod Checks
+pub mod Laws
+pub mod Derived
