@@ -1,3 +1,4 @@
 mod Keys
 mod Strings
 mod Sealing
+mod Checked
