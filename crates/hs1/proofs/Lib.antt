@@ -2,3 +2,4 @@ mod Keys
 mod Strings
 mod Sealing
 mod Checked
+pub mod Laws

@@ -346,3 +346,21 @@ pub fn open<S: Stream>(
         Err(Refusal::WrongSiv)
     }
 }
+
+// The law that what was sealed opens to the same text.
+pub fn sealed_opens()
+    ensures { λ _. ⌜ Sealed-opens ⌝ }
+{
+}
+
+// The law that what opens is what sealing gives, byte for byte.
+pub fn opened_was_sealed()
+    ensures { λ _. ⌜ Opened-was-sealed ⌝ }
+{
+}
+
+// The law that a SIV and a ciphertext have at most one text.
+pub fn one_text()
+    ensures { λ _. ⌜ One-text ⌝ }
+{
+}
