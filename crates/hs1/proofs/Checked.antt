@@ -5,11 +5,10 @@ use mathlib.Core.List.{List, _++_, append-nil}
 use Prim.Native.Nat.{ℕ, _-_, _≤_}
 use native.Mathlib.Nat.{sub-zero}
 use native.Mathlib.Omega.{arith}
-use mathlib.Core.Logic.{⊎-elim}
 use lib.Dec.{eqb, ltb}
 use lib.ListN.{length, take, drop}
 use Rattle.std.proofs.shelf.Lists.{drop-all}
-use Rattle.std.proofs.shelf.Tests.{both-ways, not-false, eqb-true, eq-eqb, le-ltb, or-from, cases-bool}
+use Rattle.std.proofs.shelf.Tests.{not-false, eqb-true, eq-eqb, le-ltb, or-from}
 use Rattle.std.specs.Options.{isSome}
 use Rattle.std.specs.declared.option.Option.{Option}
 use Rattle.std.specs.declared.option.Option.the-variants.{Some, None}
@@ -20,7 +19,7 @@ use Rattle.refusal.specs.declared.Refusal.the-variants.{WrongSiv, SivLength, Sh
 use Rattle.hash.specs.declared.Strength.{Strength}
 use Rattle.hash.specs.Strength.{siv-length}
 use Rattle.stream.specs.Stream.{StreamOf}
-use Rattle.hs1.specs.Seal.{siv, ciphertext}
+use Rattle.hs1.specs.Seal.{siv-of, ciphertext-of}
 use Rattle.hs1.specs.Checks.{refuse-if, input-checks, seal-checks, siv-checks, open-checks, or-else, wrong-siv, answer, put, cleared}
 use Rattle.hs1.specs.Calls.{Seals, Opens, Opened-there}
 
@@ -57,8 +56,8 @@ pub refused-seals : (o : Option Refusal) (f : StreamOf) (s : Strength) (key nonc
 refused-seals o f s key nonce header text siv-was was r why e h =
     record {
       answer-is = h ∙ ap answer (sym e);
-      siv-is = refused-put o why (siv f s key nonce header text) siv-was e;
-      out-is = refused-put o why (ciphertext f s key nonce header text) was e;
+      siv-is = refused-put o why (siv-of f s key nonce header text) siv-was e;
+      out-is = refused-put o why (ciphertext-of f s key nonce header text) was e;
     }
 
 pub refused-opens : (o : Option Refusal) (text : Option (List ℕ)) (n : ℕ) (was : List ℕ) (r : Result (Unit {0}) Refusal) (why : Refusal) → o ≡ Some why → r ≡ Err why → Opens o text n was was r
@@ -74,15 +73,6 @@ or-first a b why e = ap (λ x. or-else x b) e
 
 pub or-next : (a b c : Option Refusal) → a ≡ None → b ≡ c → or-else a b ≡ c
 or-next a b c e f = ap (λ x. or-else x b) e ∙ f
-
--- what opened, and what did not
-pub opened-answer : (o : Option Refusal) (text : Option (List ℕ)) → o ≡ None → isSome text ≡ true → answer (or-else o (wrong-siv text)) ≡ Ok tt
-opened-answer o None e h = absurd (both-ways false refl h)
-opened-answer o (Some text) e h = ap (λ x. answer (or-else x None)) e
-
-pub wrong-answer : (o : Option Refusal) (text : Option (List ℕ)) → o ≡ None → isSome text ≡ false → answer (or-else o (wrong-siv text)) ≡ Err WrongSiv
-wrong-answer o None e h = ap (λ x. answer (or-else x (Some WrongSiv))) e
-wrong-answer o (Some text) e h = absurd (both-ways true h refl)
 
 pub iv-length : (s : Strength) (key nonce header cipher iv : ℕ) → siv-checks s key nonce header cipher iv ≡ None → iv ≡ siv-length s
 iv-length s key nonce header cipher iv e =
@@ -113,13 +103,13 @@ passed-seal s key nonce header text siv-room room len e f g h =
     (ap (λ b. refuse-if b ShortOutput) (or-from (ltb siv-room (siv-length s)) (ltb room text) (le-ltb siv-room (siv-length s) (omega arith)) (le-ltb room text h)))
 
 -- opened, or found wrong
-pub granted-opens : (o : Option Refusal) (text : Option (List ℕ)) (n : ℕ) (was front after : List ℕ) (good : Bool) (r : Result (Unit {0}) Refusal) → o ≡ None → Opened-there text n front good → (front ≡ cleared n text → after ≡ put o (cleared n text) was) → (good ≡ true → r ≡ Ok tt) → (good ≡ false → r ≡ Err WrongSiv) → Opens o text n was after r
-granted-opens o text n was front after good r e h a t f =
+pub wrong-is : (text : Option (List ℕ)) (good : Bool) → good ≡ isSome text → refuse-if (not good) WrongSiv ≡ wrong-siv text
+wrong-is None good e = ap (λ b. refuse-if (not b) WrongSiv) e
+wrong-is (Some text) good e = ap (λ b. refuse-if (not b) WrongSiv) e
+
+pub granted-opens : (o : Option Refusal) (text : Option (List ℕ)) (n : ℕ) (was front after : List ℕ) (good : Bool) (r : Result (Unit {0}) Refusal) → o ≡ None → Opened-there text n front good → (front ≡ cleared n text → after ≡ put o (cleared n text) was) → r ≡ answer (refuse-if (not good) WrongSiv) → Opens o text n was after r
+granted-opens o text n was front after good r e h a f =
     record {
-      answer-is =
-        ⊎-elim
-        (λ (g : good ≡ true). t g ∙ sym (opened-answer o text e (sym (h .good-is) ∙ g)))
-        (λ (g : good ≡ false). f g ∙ sym (wrong-answer o text e (sym (h .good-is) ∙ g)))
-        (cases-bool good);
+      answer-is = f ∙ ap answer (wrong-is text good (h .good-is)) ∙ ap (λ x. answer (or-else x (wrong-siv text))) (sym e);
       out-is = a (h .after-is);
     }
