@@ -7,16 +7,15 @@
 
 ghost use mathlib.Core.Path.{_≡_};
 ghost use mathlib.Core.Bool.{cond, not};
-ghost use mathlib.Core.List.{List, [], _∷_, _++_};
+ghost use mathlib.Core.List.{List, _++_};
 ghost use Prim.Native.Nat.{ℕ, _+_, _-_, _*_, _/_, _%_, _^_, _<_, _≤_};
 ghost use lib.Bits.{bitXor};
 ghost use lib.Lanes.{zip2};
 ghost use Rattle.std.specs.declared.option.Option.the-variants.{None};
-ghost use lib.ListN.{length, getD, take, drop, replicate};
-ghost use Rattle.stream.specs.Stream.{StreamOf, places, run, masked};
+ghost use lib.ListN.{length, take, replicate};
+ghost use Rattle.stream.specs.Stream.{places, masked};
 ghost use Rattle.hash.specs.Strength.{hashes, siv-length, subkey-bytes};
-ghost use Rattle.hash.specs.Message.{message};
-ghost use Rattle.hs1.specs.Hs1.{subkey-seed, subkey-nonce, subkeys, hs1-seed, hs1};
+ghost use Rattle.hs1.specs.Hs1.{subkey-seed, subkey-nonce, subkeys};
 ghost use Rattle.hs1.specs.Seal.{siv-of, under, ciphertext-of, same, opened};
 ghost use Rattle.hs1.specs.Checks.{input-checks, seal-checks, siv-checks, open-checks, refuse-if, answer};
 ghost use Rattle.refusal.specs.declared.Refusal.the-variants.{WrongSiv};
@@ -92,7 +91,13 @@ fn subkey_stream<S: Stream>(stream: &S, strength: Strength, key: &[u8]) -> [u8; 
     let seed = repeat_key(key);
     let nonce = make_nonce(strength, stream.rounds(), key.len());
     let mut bytes = [0; 368];
-    mask(stream, &seed, &nonce, 0, &mut bytes[0..strength.subkey_len()]);
+    mask(
+        stream,
+        &seed,
+        &nonce,
+        0,
+        &mut bytes[0..strength.subkey_len()],
+    );
     bytes
 }
 
@@ -228,7 +233,14 @@ fn seal_buffer<S: Stream>(
     let keys = derive_keys(stream, strength, key);
     let nonce = nonce_12(nonce);
     let siv = siv_bytes(stream, strength, &keys, &nonce, header, text);
-    mask_text(stream, strength, &keys, &nonce, &siv[0..strength.siv_len()], text);
+    mask_text(
+        stream,
+        strength,
+        &keys,
+        &nonce,
+        &siv[0..strength.siv_len()],
+        text,
+    );
     siv
 }
 
@@ -359,17 +371,14 @@ pub fn open<S: Stream>(
 // The law that what was sealed opens to the same text.
 pub fn sealed_opens()
     ensures { λ _. ⌜ Sealed-opens ⌝ }
-{
-}
+{}
 
 // The law that what opens is what sealing gives, byte for byte.
 pub fn opened_was_sealed()
     ensures { λ _. ⌜ Opened-was-sealed ⌝ }
-{
-}
+{}
 
 // The law that a SIV and a ciphertext have at most one text.
 pub fn one_text()
     ensures { λ _. ⌜ One-text ⌝ }
-{
-}
+{}
