@@ -97,7 +97,8 @@ fn nh_sum(k: &[u32], m: &[u32]) -> u64
         let b = k[4 * j + 1] as u64 + m[4 * j + 1] as u64;
         let c = k[4 * j + 2] as u64 + m[4 * j + 2] as u64;
         let d = k[4 * j + 3] as u64 + m[4 * j + 3] as u64;
-        sum = sum.wrapping_add(a.wrapping_mul(c)).wrapping_add(b.wrapping_mul(d));
+        sum = sum.wrapping_add(a.wrapping_mul(c))
+            .wrapping_add(b.wrapping_mul(d));
     }
     sum
 }
