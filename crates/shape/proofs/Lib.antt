@@ -6,3 +6,6 @@ pub mod Steps
 pub mod Columns
 pub mod Lines
 pub mod Shapes
+pub mod Figures
+pub mod Signs
+pub mod Fronts

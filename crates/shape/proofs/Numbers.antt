@@ -16,7 +16,7 @@ use Rattle.shape.specs.Form.{Letter, Digit, Word, Unsigned, Number}
 use Rattle.shape.specs.Limits.{most-letters, most-digits}
 use Rattle.shape.specs.Token.{Munch, Runs, Token, allowed-digits}
 
-all-back : (C : ℕ → Type 0) (t : List ℕ) (b : ℕ) (r : List ℕ) → All C (t ++ b ∷ r) → C b
+pub all-back : (C : ℕ → Type 0) (t : List ℕ) (b : ℕ) (r : List ℕ) → All C (t ++ b ∷ r) → C b
 all-back C [] b r a = a .0
 all-back C (x ∷ t) b r a = all-back C t b r (a .1)
 
@@ -114,7 +114,7 @@ most-one u e = grind (arith, tells)
 most-other : (u : List ℕ) → (getD u 0 0 ≡ 48 → ⊥) → allowed-digits u ≡ most-digits
 most-other u e = grind (arith, tells)
 
-no-text : Number [] → ⊥
+pub no-text : Number [] → ⊥
 no-text h = ⊎-elim (λ p. omega (arith, p .0)) (λ p. omega (arith, ap length (p .3))) h
 
 -- what the reader of numbers answers

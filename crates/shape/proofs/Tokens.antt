@@ -1,15 +1,16 @@
 -- A token and what follows it, for any set T whose texts are of bytes that can not follow one.
 use mathlib.Core.Path.{_≡_, refl, sym, ap, ap₂, _∙_}
 use mathlib.Core.List.{List, [], _∷_, _++_, append-assoc}
-use Prim.Native.Nat.{ℕ, _<_}
+use Prim.Native.Nat.{ℕ, _+_, _<_, _≤_}
 use native.Mathlib.Omega.{arith}
 use lib.ListN.{length, getD, take, drop}
 use Rattle.std.specs.shelf.Lists.{All}
-use Rattle.std.proofs.shelf.Lists.{take-append-drop, length-take-le, length-drop, getD-drop, take-more}
+use Rattle.std.proofs.shelf.Lists.{append-nil, take-append-drop, length-take-le, length-drop, getD-drop, take-more}
 use Rattle.shape.specs.Column.{Front}
 use Rattle.shape.specs.Outcome.{Fault, CarriesTo, Then}
 use Rattle.shape.specs.Token.{Munch}
 use Rattle.shape.proofs.Carry.{Starts, carry}
+use Rattle.shape.proofs.Columns.{front-shorter}
 
 -- two texts of the class C with other bytes after them
 pub parts-agree : (C : ℕ → Type 0) (t t′ u u′ : List ℕ) → All C t → All C t′ → (C (getD u 0 0) → ⊥) → 0 < length u → (C (getD u′ 0 0) → ⊥) → 0 < length u′ → t ++ u ≡ t′ ++ u′ → (t ≡ t′) × (u ≡ u′)
@@ -34,13 +35,17 @@ munch-agrees C T (x ∷ t) (y ∷ t′) b r u′ a g s s′ n′ e =
     let q = munch-agrees C (λ z. T (x ∷ z)) t t′ b r u′ (a .1) (rw h g) s s′ n′ e′ in
     (ap₂ _∷_ h (q .0), q .1)
 
-all-front : (C : ℕ → Type 0) (t u : List ℕ) → All C (t ++ u) → All C t
+pub all-front : (C : ℕ → Type 0) (t u : List ℕ) → All C (t ++ u) → All C t
 all-front C [] u a = tt
 all-front C (x ∷ t) u a = (a .0, all-front C t u (a .1))
 
 first-is : (x : List ℕ) → 0 < length x → x ≡ getD x 0 0 ∷ drop 1 x
 first-is [] l = absurd (omega arith)
 first-is (b ∷ x) l = refl
+
+-- no longer front part than the one munched is a token
+pub munch-longest : (T : List ℕ → Type 0) (s : List ℕ) (n : ℕ) → Munch T s n → (m : ℕ) → n < m → m ≤ length s → T (take m s) → ⊥
+munch-longest T s n u m l fits g = u .stops (omega arith) (front-shorter T s (n + 1) m (omega arith) ([], rw append-nil g))
 
 -- C holds the bytes of the tokens, and what follows in H begins with another
 module _ (C : ℕ → Type 0) (T H : List ℕ → Type 0) (class : (t : List ℕ) → T t → All C t) (ends : (v : List ℕ) → H v → (0 < length v) × (C (getD v 0 0) → ⊥))

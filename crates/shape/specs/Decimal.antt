@@ -8,6 +8,7 @@ use lib.IntN.{ℤ, pos, negsuc, natAbs}
 use lib.ListN.{length, take, drop}
 use Rattle.std.specs.declared.option.Option.{Option}
 use Rattle.std.specs.declared.option.Option.the-variants.{Some, None}
+use Rattle.shape.specs.declared.value.Leading.{Leading}
 use Rattle.shape.specs.Form.{Number}
 use Rattle.shape.specs.Limits.{bound}
 
@@ -48,3 +49,15 @@ MeasuresNumber z None = InRange z → ⊥
 abbrev pub WritesNumber : ℤ → (before after : List ℕ) → Option ℕ → Type 0
 WritesNumber z before after (Some n) = InRange z × (n ≡ length (digits z)) × (n ≤ length before) × (after ≡ digits z ++ drop n before)
 WritesNumber z before after None = (InRange z → length before < length (digits z)) × (after ≡ before)
+
+-- Reading a number off the front of s: the value whose digits are the longest number that s begins with,
+-- and how many they are; nothing exactly where s begins with no number.
+pub record LongestNumber (s : List ℕ) (z : ℤ) (n : ℕ) : Type 0 where
+  pub fits : n ≤ length s
+  pub in-range : InRange z
+  pub is : take n s ≡ digits z
+  pub longest : (m : ℕ) → n < m → m ≤ length s → Number (take m s) → ⊥
+
+abbrev pub LeadsNumber : List ℕ → Option Leading → Type 0
+LeadsNumber s (Some x) = LongestNumber s (x .value) (x .len)
+LeadsNumber s None = (m : ℕ) → m ≤ length s → Number (take m s) → ⊥

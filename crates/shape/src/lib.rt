@@ -6,11 +6,12 @@
 
 mod value;
 
-
-
-
-
-
+pub use value::LARGEST;
+pub use value::Leading;
+pub use value::leading_number;
+pub use value::number_len;
+pub use value::read_number;
+pub use value::write_number;
 
 ghost use mathlib.Core.Path.{_≡_};
 ghost use Prim.Native.Nat.{ℕ, _+_, _<_, _≤_};
