@@ -1,5 +1,5 @@
 -- The number at the front of a text.
-use mathlib.Core.Path.{_≡_, refl, sym, ap, subst, _∙_}
+use mathlib.Core.Path.{_≡_, refl, sym, ap, ap₂, subst, _∙_}
 use mathlib.Core.Logic.{_⊎_, inl, inr, ⊎-elim}
 use mathlib.Core.List.{List, [], _∷_, _++_}
 use Prim.Native.Nat.{ℕ, zero, suc, _+_, _-_, _<_, _≤_}
@@ -11,7 +11,7 @@ use Rattle.std.specs.declared.option.Option.{Option}
 use Rattle.std.specs.declared.option.Option.the-variants.{Some, None}
 use Rattle.std.specs.declared.result.Result.the-variants.{Ok, Err}
 use Rattle.std.proofs.shelf.Tests.{cases-lt, cases-order}
-use Rattle.std.proofs.shelf.Lists.{append-nil, take-all, take-at, length-take-le, getD-take}
+use Rattle.std.proofs.shelf.Lists.{append-nil, take-all, take-at, length-take-le, getD-take, getD-append-add}
 use Rattle.std.proofs.shelf.Elements.{all-getD}
 use Rattle.shape.specs.declared.value.Leading.{Leading}
 use Rattle.shape.specs.Decimal.{digits, InRange, LongestNumber, LeadsNumber, ReadsNumber}
@@ -82,3 +82,35 @@ whole-other s z n o other y h e = o .longest (length s) (omega (arith, o .fits))
 
 pub whole-none : (s : List ℕ) → LeadsNumber s None → ReadsNumber s None
 whole-none s o y h e = o (length s) (omega arith) (rw (take-all (length s) s (omega arith), e) (digits-number y h))
+
+-- after the first byte of a number there are only digits
+number-digit : (t : List ℕ) (i : ℕ) → Number t → 0 < i → i < length t → Digit (getD t i 0)
+number-digit t zero g z l = absurd (omega arith)
+number-digit t (suc i) g z l =
+    ⊎-elim (λ u. all-getD Digit t (suc i) 0 l (u .2)) (λ q. rw (q .3) (all-getD Digit (q .0) i 0 (omega (arith, ap length (q .3))) (q .1 .2))) g
+
+-- Digits that no digit follows are read as their value, and all of them: what a reader of lines needs to find a value again.
+module _ (s : List ℕ) (z : ℤ) (rest : List ℕ) (h : InRange z) (cut : s ≡ digits z ++ rest) (ends : Digit (getD rest 0 0) → ⊥) where
+  here : take (length (digits z)) s ≡ digits z
+  here = rw cut (take-at (digits z) rest (length (digits z)) refl)
+
+  within : length (digits z) ≤ length s
+  within = omega (arith, ap length cut, length-append (digits z) rest)
+
+  is-number : Number (take (length (digits z)) s)
+  is-number = rw here (digits-number z h)
+
+  not-longer : (n : ℕ) → length (digits z) < n → n ≤ length s → Number (take n s) → ⊥
+  not-longer n l fits g =
+      let some : 0 < length (digits z) = number-some (digits z) (digits-number z h) in
+      let byte : getD (take n s) (length (digits z)) 0 ≡ getD rest 0 0 = getD-take n s (length (digits z)) 0 l ∙ ap (λ x. getD x (length (digits z)) 0) cut ∙ (ap (λ i. getD (digits z ++ rest) i 0) (omega arith) ∙ getD-append-add (digits z) rest 0 0) in
+      ends (subst (λ x. Digit x) byte (number-digit (take n s) (length (digits z)) g some (omega (arith, length-take-le n s fits))))
+
+  found : (y : ℤ) (n : ℕ) → LongestNumber s y n → (n ≡ length (digits z)) × (y ≡ z)
+  found y n o =
+      let e : n ≡ length (digits z) = ⊎-elim (λ e. e) (⊎-elim (λ (l : n < length (digits z)). absurd (o .longest (length (digits z)) l within is-number)) (λ (l : length (digits z) < n). absurd (not-longer n l (o .fits) (rw (o .is) (digits-number y (o .in-range)))))) (cases-order n (length (digits z))) in
+      (e, same-digits y z (o .in-range) h (sym (o .is) ∙ ap (λ m. take m s) e ∙ here))
+
+  pub leading-found : (r : Option Leading) → LeadsNumber s r → r ≡ Some (record { value = z; len = length (digits z) })
+  leading-found None o = absurd (o (length (digits z)) within is-number)
+  leading-found (Some x) o = let f = found (x .value) (x .len) o in let made : ℤ → ℕ → Leading = λ v n. record { value = v; len = n } in ap Some (ap₂ made (f .1) (f .0))

@@ -6,6 +6,7 @@ pub mod Steps
 pub mod Columns
 pub mod Lines
 pub mod Shapes
+pub mod Parts
 pub mod Figures
 pub mod Signs
 pub mod Fronts

@@ -43,6 +43,11 @@ first-is : (x : List ℕ) → 0 < length x → x ≡ getD x 0 0 ∷ drop 1 x
 first-is [] l = absurd (omega arith)
 first-is (b ∷ x) l = refl
 
+-- what follows a text still begins with another byte when more is put after it
+pub grown : (C : ℕ → Type 0) (v k : List ℕ) → (0 < length v) × (C (getD v 0 0) → ⊥) → (0 < length (v ++ k)) × (C (getD (v ++ k) 0 0) → ⊥)
+grown C [] k e = absurd (omega (arith, e .0))
+grown C (b ∷ v) k e = (omega arith, e .1)
+
 -- no longer front part than the one munched is a token
 pub munch-longest : (T : List ℕ → Type 0) (s : List ℕ) (n : ℕ) → Munch T s n → (m : ℕ) → n < m → m ≤ length s → T (take m s) → ⊥
 munch-longest T s n u m l fits g = u .stops (omega arith) (front-shorter T s (n + 1) m (omega arith) ([], rw append-nil g))
@@ -56,13 +61,6 @@ module _ (C : ℕ → Type 0) (T H : List ℕ → Type 0) (class : (t : List ℕ
   bytes : All C (take n s)
   bytes = all-front C (take n s) (m .begins .0) (class _ (m .begins .1))
 
-  grown : (v k : List ℕ) → H v → (0 < length (v ++ k)) × (C (getD (v ++ k) 0 0) → ⊥)
-  grown v k h = more v (ends v h)
-    where
-      more : (v : List ℕ) → (0 < length v) × (C (getD v 0 0) → ⊥) → (0 < length (v ++ k)) × (C (getD (v ++ k) 0 0) → ⊥)
-      more [] e = absurd (omega (arith, e .0))
-      more (b ∷ v) e = (omega arith, e .1)
-
   -- the token that any other writing has here is this one
   pub the-token : (t v k x : List ℕ) → Starts (drop n s) x → T t → H v → (t ++ v) ++ k ≡ take n s ++ x → (take n s ≡ t) × (x ≡ v ++ k)
   the-token t v k x st g h e =
@@ -72,7 +70,7 @@ module _ (C : ℕ → Type 0) (T H : List ℕ → Type 0) (class : (t : List ℕ
       let stop : Front T (take n s ++ b ∷ []) → ⊥ = λ f. m .stops within (rw (take-more s n 0 within, ← byte) f) in
       let x-is = first-is x (st .1) in
       let e₁ : take n s ++ b ∷ drop 1 x ≡ t ++ (v ++ k) = ap (λ z. take n s ++ z) (sym x-is) ∙ sym e ∙ append-assoc t v k in
-      let r = munch-agrees C T (take n s) t b (drop 1 x) (v ++ k) bytes g stop (grown v k h .1) (grown v k h .0) e₁ in
+      let r = munch-agrees C T (take n s) t b (drop 1 x) (v ++ k) bytes g stop (grown C v k (ends v h) .1) (grown C v k (ends v h) .0) e₁ in
       (r .0, x-is ∙ r .1)
 
   pub token-goes : T (take n s) → CarriesTo (Then T H) H s n

@@ -1,4 +1,5 @@
 -- Tokens: texts of a set T that a reader takes as one piece, as far as the bytes s go.
+use mathlib.Core.Path.{_≡_}
 use mathlib.Core.List.{List}
 use Prim.Native.Nat.{ℕ, _+_, _<_, _≤_}
 use mathlib.Core.Bool.{cond}
@@ -27,6 +28,13 @@ pub record Runs (C : ℕ → Type 0) (most : ℕ) (s : List ℕ) (n : ℕ) : Typ
   pub few : n ≤ most
   pub all : All C (take n s)
   pub stops : n < most → n < length s → C (getD s n 0) → ⊥
+
+-- the first n bytes of s are those of p, and the next are not, if both have one
+pub record Shares (p s : List ℕ) (n : ℕ) : Type 0 where
+  pub fits : n ≤ length s
+  pub few : n ≤ length p
+  pub same : take n s ≡ take n p
+  pub stops : n < length s → n < length p → getD s n 0 ≡ getD p n 0 → ⊥
 
 -- how many digits a number may have that begins as s does
 abbrev pub allowed-digits : List ℕ → ℕ

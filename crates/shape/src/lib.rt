@@ -4,8 +4,10 @@
 //! arguments with one space before each, `)`. An argument is a number or
 //! again a form. `docs/LINES.md` has the grammar and the column rule.
 
+mod scan;
 mod value;
 
+pub use scan::literal;
 pub use value::LARGEST;
 pub use value::Leading;
 pub use value::leading_number;
@@ -13,13 +15,13 @@ pub use value::number_len;
 pub use value::read_number;
 pub use value::write_number;
 
-ghost use mathlib.Core.Path.{_≡_};
-ghost use Prim.Native.Nat.{ℕ, _+_, _<_, _≤_};
-ghost use lib.ListN.{length, getD};
+use scan::number;
+use scan::run;
+
+ghost use Prim.Native.Nat.{_<_};
 ghost use Rattle.shape.specs.Column.{OneColumn, Verdict};
-ghost use Rattle.shape.specs.Form.{Digit, Forms, Number, Tails, Unique, WellShaped};
+ghost use Rattle.shape.specs.Form.{Forms, Tails, Unique, WellShaped};
 ghost use Rattle.shape.specs.Outcome.{Outcome};
-ghost use Rattle.shape.specs.Token.{Runs, Token, allowed-digits};
 
 // letters of a word
 pub const MOST_LETTERS: usize = 8;
@@ -99,47 +101,4 @@ fn arguments(s: &[u8], depth: u8) -> Result<usize, usize>
         }
     }
     Err(at)
-}
-
-// How long the number at the front of `s` is; `Err` for as much as could begin one.
-pub fn number(s: &[u8]) -> Result<usize, usize>
-    ensures { λ r. ⌜ Token Number (now (s .entry)) r ⌝ }
-{
-    if s.len() > 0 && s[0] == b'-' {
-        if s.len() > 1 && s[1] == b'0' {
-            return Err(1);
-        }
-        let n = run(&s[1..], b'0', b'9', MOST_DIGITS);
-        if n == 0 {
-            return Err(1);
-        }
-        return Ok(1 + n);
-    }
-    let n = unsigned(s);
-    if n == 0 {
-        return Err(0);
-    }
-    Ok(n)
-}
-
-// How many digits at the front of `s` can be those of one number: after a
-// leading zero no other is.
-fn unsigned(s: &[u8]) -> usize
-    ensures { λ r. ⌜ Runs Digit (allowed-digits (now (s .entry))) (now (s .entry)) r ⌝ }
-{
-    if s.len() > 0 && s[0] == b'0' {
-        return run(s, b'0', b'9', 1);
-    }
-    run(s, b'0', b'9', MOST_DIGITS)
-}
-
-// How many bytes at the front of `s` lie between `low` and `high`, counted up to `most`.
-pub fn run(s: &[u8], low: u8, high: u8, most: usize) -> usize
-    ensures { λ r. ⌜ Runs (λ b. (low ≤ b) × (b ≤ high)) most (now (s .entry)) r ⌝ }
-{
-    let mut n = 0;
-    while n < most && n < s.len() && s[n] >= low && s[n] <= high {
-        n += 1;
-    }
-    n
 }

@@ -1,6 +1,6 @@
 //! Numbers by their values: read from their digits, and written as them.
 
-use crate::number;
+use crate::scan::number;
 
 ghost use mathlib.Core.Path.{_≡_};
 ghost use mathlib.Core.List.{_++_};

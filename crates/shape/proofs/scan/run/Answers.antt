@@ -1,7 +1,7 @@
 use native.Mathlib.Omega.{arith}
 use Rattle.std.proofs.shelf.Lists.{take-more}
 use Rattle.std.proofs.shelf.Elements.{all-push}
-use Rattle.shape.proofs.run.Needs as need
+use Rattle.shape.proofs.scan.run.Needs as need
 
 pub loop-n-again : need.loop-n-again
 loop-n-again c =

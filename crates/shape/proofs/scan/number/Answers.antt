@@ -7,8 +7,8 @@ use Rattle.shape.specs.Limits.{most-digits}
 use Rattle.shape.specs.Token.{Runs}
 use Rattle.shape.proofs.Carry.{drop-byte}
 use Rattle.shape.proofs.Numbers.{plain-token, plain-none, zero-token, minus-token, minus-none}
-use Rattle.shape.proofs.number.Needs as need
-use Rattle.shape.proofs.number.Needs.{else-s-gt1·by·then-s-gt1·else-s-eq48, else-s-gt1·by·else-s-gt1, else-s-gt0·by·then-s-gt0·else-s-eq45, else-s-gt0·by·else-s-gt0}
+use Rattle.shape.proofs.scan.number.Needs as need
+use Rattle.shape.proofs.scan.number.Needs.{else-s-gt1·by·then-s-gt1·else-s-eq48, else-s-gt1·by·else-s-gt1, else-s-gt0·by·then-s-gt0·else-s-eq45, else-s-gt0·by·else-s-gt0}
 
 pub returns-then-s-eq48 : need.returns-then-s-eq48
 returns-then-s-eq48 c =
