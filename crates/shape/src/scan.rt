@@ -16,16 +16,10 @@ pub(crate) fn number(s: &[u8]) -> Result<usize, usize>
             return Err(1);
         }
         let n = run(&s[1..], b'0', b'9', MOST_DIGITS);
-        if n == 0 {
-            return Err(1);
-        }
-        return Ok(1 + n);
+        return if n > 0 { Ok(1 + n) } else { Err(1) };
     }
     let n = unsigned(s);
-    if n == 0 {
-        return Err(0);
-    }
-    Ok(n)
+    if n > 0 { Ok(n) } else { Err(0) }
 }
 
 // How many digits at the front of `s` can be those of one number: after a
