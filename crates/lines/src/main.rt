@@ -6,6 +6,11 @@
 
 use std::alloc::Global;
 use std::error::AnyError;
+ghost use mathlib.Core.Path.{_≡_};
+ghost use Prim.Native.Nat.{_<_};
+ghost use Rattle.shape.specs.Column.{Column};
+ghost use Rattle.shape.specs.Form.{WellShaped};
+ghost use Rattle.std.specs.Options.{Cases as BySome};
 
 #[derive(Drop)]
 struct Sample {
@@ -13,7 +18,10 @@ struct Sample {
     bytes: Vec<u8>,
 }
 
-fn hex_digit(b: u8) -> Option<u8> {
+// The value of a hexadecimal digit.
+fn hex_digit(b: u8) -> Option<u8>
+    ensures { λ r. ⌜ BySome r (Unit {0}) (λ v. v < 16) ⌝ }
+{
     match b {
         b'0'..=b'9' => Some(b - b'0'),
         b'a'..=b'f' => Some(b - b'a' + 10),
@@ -30,7 +38,7 @@ fn append_hex(bytes: &mut Vec<u8>, digits: &[u8]) -> Result<(), AnyError> {
         let (Some(high), Some(low)) = (hex_digit(*high), hex_digit(*low)) else {
             return Err("no hexadecimal digit".into());
         };
-        bytes.push(high.wrapping_mul(16).wrapping_add(low))?;
+        bytes.push(high * 16 + low)?;
     }
     Ok(())
 }
@@ -60,7 +68,9 @@ fn parse_sample(heap: Global, text: &str) -> Result<Sample, AnyError> {
 }
 
 // What the reader answers, with 0 for a well-shaped line.
-fn answer(line: &[u8]) -> usize {
+fn answer(line: &[u8]) -> usize
+    ensures { λ r. ⌜ (r ≡ 0 → WellShaped (now (line .entry))) ⌝ ∗ ⌜ (0 < r → Column WellShaped (now (line .entry)) r) ⌝ }
+{
     match shape::read(line) {
         Ok(()) => 0,
         Err(column) => column,
@@ -68,8 +78,8 @@ fn answer(line: &[u8]) -> usize {
 }
 
 fn run(rt: &LibcRuntime) -> Result<(), AnyError> {
-    let mut agree = 0usize;
-    let mut all = 0usize;
+    let mut agree = 0u64;
+    let mut all = 0u64;
     for line in rt.lines(rt.alloc()) {
         let line = line?;
         let sample = parse_sample(rt.alloc(), line.as_str())?;

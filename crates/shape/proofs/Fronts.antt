@@ -2,25 +2,23 @@
 use mathlib.Core.Path.{_≡_, refl, sym, ap, ap₂, subst, _∙_}
 use mathlib.Core.Logic.{_⊎_, inl, inr, ⊎-elim}
 use mathlib.Core.List.{List, [], _∷_, _++_}
-use Prim.Native.Nat.{ℕ, zero, suc, _+_, _-_, _<_, _≤_}
+use Prim.Native.Nat.{ℕ, zero, suc, _-_, _<_, _≤_}
 use native.Mathlib.Omega.{arith}
 use lib.IntN.{ℤ}
 use lib.ListN.{length, getD, drop, take, length-append}
-use Rattle.std.specs.shelf.Lists.{All}
 use Rattle.std.specs.declared.option.Option.{Option}
 use Rattle.std.specs.declared.option.Option.the-variants.{Some, None}
 use Rattle.std.specs.declared.result.Result.the-variants.{Ok, Err}
-use Rattle.std.proofs.shelf.Tests.{cases-lt, cases-order}
-use Rattle.std.proofs.shelf.Lists.{append-nil, take-all, take-at, length-take-le, getD-take, getD-append-add}
+use Rattle.std.proofs.shelf.Tests.{cases-order}
+use Rattle.std.proofs.shelf.Lists.{take-all, take-at, length-take-le, getD-take, getD-append-add}
 use Rattle.std.proofs.shelf.Elements.{all-getD}
 use Rattle.shape.specs.declared.value.Leading.{Leading}
 use Rattle.shape.specs.Decimal.{digits, InRange, LongestNumber, LeadsNumber, ReadsNumber}
 use Rattle.shape.specs.Form.{Digit, Number, Unsigned}
-use Rattle.shape.specs.Limits.{most-digits}
-use Rattle.shape.specs.Token.{Munch, Token}
+use Rattle.shape.specs.Token.{Token}
 use Rattle.shape.proofs.Tokens.{all-front, munch-longest}
-use Rattle.shape.proofs.Numbers.{all-back, no-text}
-use Rattle.shape.proofs.Signs.{digits-number, same-digits, number-digits}
+use Rattle.shape.proofs.Numbers.{no-text}
+use Rattle.shape.proofs.Signs.{digits-number, same-digits}
 
 -- the front part of a number is one, unless it is empty or a minus alone
 unsigned-front : (d : ℕ) (p r : List ℕ) → Unsigned (d ∷ (p ++ r)) → Unsigned (d ∷ p)
@@ -33,9 +31,9 @@ begun [] r g = inl (omega arith)
 begun (b ∷ []) r g = inl (omega arith)
 begun (b ∷ (d ∷ p)) r g =
     inr (⊎-elim (λ u. inl (unsigned-front b (d ∷ p) r u)) (λ q.
-        let h : b ≡ 45 = cc in
-        let e : d ∷ (p ++ r) ≡ q .0 = cc in
-        inr (d ∷ p, unsigned-front d p r (subst (λ x. Unsigned x) (sym e) (q .1)), (λ z. q .2 (ap (λ x. getD x 0 0) (sym e) ∙ z)), ap (λ x. x ∷ (d ∷ p)) h)) g)
+    let h : b ≡ 45 = cc in
+    let e : d ∷ (p ++ r) ≡ q .0 = cc in
+    inr (d ∷ p, unsigned-front d p r (subst (λ x. Unsigned x) (sym e) (q .1)), (λ z. q .2 (ap (λ x. getD x 0 0) (sym e) ∙ z)), ap (λ x. x ∷ (d ∷ p)) h)) g)
 
 pub none-leads : (s : List ℕ) (n : ℕ) → Token Number s (Err n) → LeadsNumber s None
 none-leads s n t m fits g =
@@ -52,23 +50,20 @@ take-first [] n z l = absurd (omega arith)
 take-first (x ∷ s) zero z l = absurd (omega arith)
 take-first (x ∷ s) (suc n) z l = let e : suc n - 1 ≡ n = omega arith in ap (λ m. x ∷ take m s) (sym e)
 
--- the digits that the reader finds, without a minus and after one
+-- the digits that the reader finds after a minus
 module _ (s : List ℕ) (n : ℕ) (t : Token Number s (Ok n)) where
-  pub some-bytes : (0 < n) × (n ≤ length s)
+  some-bytes : (0 < n) × (n ≤ length s)
   some-bytes = (omega (arith, number-some (take n s) (t .1), length-take-le n s (t .0 .fits)), t .0 .fits)
 
   first : getD (take n s) 0 0 ≡ getD s 0 0
   first = getD-take n s 0 0 (some-bytes .0)
 
-  pub plain-part : (getD s 0 0 ≡ 45 → ⊥) → Unsigned (take n s)
-  plain-part no′ = ⊎-elim (λ u. u) (λ q. absurd (no′ (sym first ∙ ap (λ x. getD x 0 0) (q .3)))) (t .1)
-
   pub minus-part : getD s 0 0 ≡ 45 → Unsigned (take (n - 1) (drop 1 s)) × (getD (take (n - 1) (drop 1 s)) 0 0 ≡ 48 → ⊥) × (take n s ≡ 45 ∷ take (n - 1) (drop 1 s))
   minus-part e =
       let cut : take n s ≡ 45 ∷ take (n - 1) (drop 1 s) = take-first s n (some-bytes .0) (omega (arith, some-bytes)) ∙ ap (λ x. x ∷ take (n - 1) (drop 1 s)) e in
       ⊎-elim (λ u. absurd (omega (arith, all-getD Digit (take n s) 0 0 (u .0) (u .2), first))) (λ q.
-          let w : q .0 ≡ take (n - 1) (drop 1 s) = ap (λ x. drop 1 x) (sym (q .3) ∙ cut) in
-          (subst (λ x. Unsigned x) w (q .1), (λ z. q .2 (ap (λ x. getD x 0 0) w ∙ z)), cut)) (t .1)
+      let w : q .0 ≡ take (n - 1) (drop 1 s) = ap (λ x. drop 1 x) (sym (q .3) ∙ cut) in
+      (subst (λ x. Unsigned x) w (q .1), (λ z. q .2 (ap (λ x. getD x 0 0) w ∙ z)), cut)) (t .1)
 
   pub leads : (z : ℤ) → InRange z → take n s ≡ digits z → LongestNumber s z n
   leads z h e = record { fits = t .0 .fits; in-range = h; is = e; longest = munch-longest Number s n (t .0) }

@@ -1,23 +1,22 @@
 -- Numbers with a sign: what the sign adds to the digits.
-use mathlib.Core.Path.{_≡_, refl, sym, ap, subst, _∙_}
-use mathlib.Core.Bool.{true, false}
-use mathlib.Core.Logic.{_⊎_, inl, inr, ⊎-elim}
+use mathlib.Core.Path.{_≡_, refl, sym, ap, _∙_}
+use mathlib.Core.Bool.{true}
+use mathlib.Core.Logic.{inl, inr, ⊎-elim}
 use mathlib.Core.List.{List, [], _∷_, _++_, append-nil}
-use Prim.Native.Nat.{ℕ, zero, suc, _+_, _-_, _^_, _<_, _≤_}
+use Prim.Native.Nat.{ℕ, zero, suc, _+_, _-_, _<_, _≤_}
 use native.Mathlib.Omega.{arith}
 use lib.IntN.{ℤ, pos, negsuc, natAbs, _-ℤ_}
 use lib.Signed.{ltZ}
-use lib.ListN.{length, getD, set, drop, take, length-append}
+use lib.ListN.{length, getD, set, drop, take}
 use mir.Syntax.{w32}
 use mir.Val.{toZ, ofZ, SFits}
 use borrow.Rule.Slice.PartMut.{putMid}
 use Rattle.std.specs.Reads.{value}
-use Rattle.std.specs.shelf.Lists.{All}
 use Rattle.std.proofs.shelf.Signed.{ints, toZ-pos, toZ-ofZ}
 use Rattle.std.proofs.shelf.Tests.{ltb-true}
 use Rattle.std.proofs.shelf.Lists.{take-all, drop-all}
 use Rattle.shape.specs.Decimal.{figures, digits, InRange, Numbers-are-digits}
-use Rattle.shape.specs.Form.{Digit, Number, Unsigned}
+use Rattle.shape.specs.Form.{Number, Unsigned}
 use Rattle.shape.specs.Limits.{most-digits, bound}
 use Rattle.shape.proofs.Figures.{figures-unsigned, figures-first, figures-one, unsigned-value, same-figures, length-figures}
 
@@ -76,10 +75,6 @@ length-digits (negsuc n) h = omega (arith, length-figures most-digits (suc n) (o
 pub digits-below : (z : ℤ) (m : ℕ) → ltZ z (pos 0) ≡ true → m ≡ natAbs z → digits z ≡ 45 ∷ figures m
 digits-below (pos n) m h e = absurd (omega (arith, ltb-true n 0 h))
 digits-below (negsuc n) m h e = ap (λ k. 45 ∷ figures k) (sym e)
-
-pub digits-from-zero : (z : ℤ) (m : ℕ) → ltZ z (pos 0) ≡ false → m ≡ natAbs z → digits z ≡ figures m
-digits-from-zero (pos n) m h e = ap figures (sym e)
-digits-from-zero (negsuc n) m h e = let c : _≡_ {A = ℕ} 0 1 = cc in absurd (omega arith)
 
 -- a minus, and digits in the part after it
 pub put-below : (out last w : List ℕ) (k : ℕ) → 0 < length out → k ≡ length out - 1 → last ≡ w ++ drop (length w) (take k (drop 1 (set out 0 45))) → putMid 1 k (set out 0 45) last ≡ (45 ∷ w) ++ drop (suc (length w)) out

@@ -8,16 +8,14 @@ mod scan;
 mod value;
 
 pub use scan::literal;
+use scan::number;
+use scan::run;
 pub use value::LARGEST;
 pub use value::Leading;
 pub use value::leading_number;
 pub use value::number_len;
 pub use value::read_number;
 pub use value::write_number;
-
-use scan::number;
-use scan::run;
-
 ghost use Prim.Native.Nat.{_<_};
 ghost use Rattle.shape.specs.Column.{OneColumn, Verdict};
 ghost use Rattle.shape.specs.Form.{Forms, Tails, Unique, WellShaped};

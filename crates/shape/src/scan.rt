@@ -1,7 +1,6 @@
 //! The pieces of a line: how far the bytes at the front go as one.
 
 use crate::MOST_DIGITS;
-
 ghost use Prim.Native.Nat.{_≤_};
 ghost use Rattle.shape.specs.Form.{Digit, Number};
 ghost use Rattle.shape.specs.Outcome.{Is, Outcome};

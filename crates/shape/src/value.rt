@@ -1,7 +1,6 @@
 //! Numbers by their values: read from their digits, and written as them.
 
 use crate::scan::number;
-
 ghost use mathlib.Core.Path.{_≡_};
 ghost use mathlib.Core.List.{_++_};
 ghost use Prim.Native.Nat.{ℕ, _+_, _-_, _<_, _≤_};
@@ -46,10 +45,16 @@ pub fn leading_number(text: &[u8]) -> Option<Leading>
     };
     if text[0] == b'-' {
         let size = figures_value(&text[1..len]);
-        return Some(Leading { value: 0 - size as i32, len });
+        return Some(Leading {
+            value: 0 - size as i32,
+            len,
+        });
     }
     let size = figures_value(&text[0..len]);
-    Some(Leading { value: size as i32, len })
+    Some(Leading {
+        value: size as i32,
+        len,
+    })
 }
 
 // The value of digits that make a number without a sign.
@@ -73,7 +78,11 @@ pub fn number_len(value: i32) -> Option<usize>
         return None;
     }
     let count = figure_count(size);
-    if value < 0 { Some(1 + count) } else { Some(count) }
+    if value < 0 {
+        Some(1 + count)
+    } else {
+        Some(count)
+    }
 }
 
 // Writes `value` to the front of `out` and answers how many bytes that took;

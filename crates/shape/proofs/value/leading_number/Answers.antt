@@ -1,12 +1,12 @@
 use mathlib.Core.Path.{_≡_, sym, ap, subst, _∙_}
 use mathlib.Core.List.{_∷_}
-use Prim.Native.Nat.{_-_, _<_}
+use Prim.Native.Nat.{_-_}
 use native.Mathlib.Omega.{arith}
 use lib.IntN.{ℤ}
-use lib.ListN.{length, take, drop}
-use Rattle.shape.specs.Decimal.{InRange, digits, LongestNumber}
+use lib.ListN.{take}
+use Rattle.shape.specs.Decimal.{LongestNumber}
 use Rattle.shape.proofs.Signs.{not-zero, below-zero, negated, same-size}
-use Rattle.shape.proofs.Fronts.{none-leads, some-bytes, plain-part, minus-part, leads}
+use Rattle.shape.proofs.Fronts.{none-leads, minus-part, leads}
 use Rattle.shape.proofs.value.leading_number.Needs as need
 
 pub returns-in-rest : need.returns-in-rest
