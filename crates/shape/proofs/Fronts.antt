@@ -1,18 +1,16 @@
 -- The number at the front of a text.
-use mathlib.Core.Path.{_≡_, refl, sym, ap, ap₂, subst, _∙_}
+use mathlib.Core.Path.{_≡_, refl, sym, ap, subst, _∙_}
 use mathlib.Core.Logic.{_⊎_, inl, inr, ⊎-elim}
 use mathlib.Core.List.{List, [], _∷_, _++_}
 use Prim.Native.Nat.{ℕ, zero, suc, _-_, _<_, _≤_}
 use native.Mathlib.Omega.{arith}
 use lib.IntN.{ℤ}
 use lib.ListN.{length, getD, drop, take, length-append}
-use Rattle.std.specs.declared.option.Option.{Option}
 use Rattle.std.specs.declared.option.Option.the-variants.{Some, None}
 use Rattle.std.specs.declared.result.Result.the-variants.{Ok, Err}
 use Rattle.std.proofs.shelf.Tests.{cases-order}
 use Rattle.std.proofs.shelf.Lists.{take-all, take-at, length-take-le, getD-take, getD-append-add}
 use Rattle.std.proofs.shelf.Elements.{all-getD}
-use Rattle.shape.specs.declared.value.Leading.{Leading}
 use Rattle.shape.specs.Decimal.{digits, InRange, LongestNumber, LeadsNumber, ReadsNumber}
 use Rattle.shape.specs.Form.{Digit, Number, Unsigned}
 use Rattle.shape.specs.Token.{Token}
@@ -101,11 +99,10 @@ module _ (s : List ℕ) (z : ℤ) (rest : List ℕ) (h : InRange z) (cut : s ≡
       let byte : getD (take n s) (length (digits z)) 0 ≡ getD rest 0 0 = getD-take n s (length (digits z)) 0 l ∙ ap (λ x. getD x (length (digits z)) 0) cut ∙ (ap (λ i. getD (digits z ++ rest) i 0) (omega arith) ∙ getD-append-add (digits z) rest 0 0) in
       ends (subst (λ x. Digit x) byte (number-digit (take n s) (length (digits z)) g some (omega (arith, length-take-le n s fits))))
 
-  found : (y : ℤ) (n : ℕ) → LongestNumber s y n → (n ≡ length (digits z)) × (y ≡ z)
-  found y n o =
+  pub leading-found : (y : ℤ) (n : ℕ) → LongestNumber s y n → (n ≡ length (digits z)) × (y ≡ z)
+  leading-found y n o =
       let e : n ≡ length (digits z) = ⊎-elim (λ e. e) (⊎-elim (λ (l : n < length (digits z)). absurd (o .longest (length (digits z)) l within is-number)) (λ (l : length (digits z) < n). absurd (not-longer n l (o .fits) (rw (o .is) (digits-number y (o .in-range)))))) (cases-order n (length (digits z))) in
       (e, same-digits y z (o .in-range) h (sym (o .is) ∙ ap (λ m. take m s) e ∙ here))
 
-  pub leading-found : (r : Option Leading) → LeadsNumber s r → r ≡ Some (record { value = z; len = length (digits z) })
-  leading-found None o = absurd (o (length (digits z)) within is-number)
-  leading-found (Some x) o = let f = found (x .value) (x .len) o in let made : ℤ → ℕ → Leading = λ v n. record { value = v; len = n } in ap Some (ap₂ made (f .1) (f .0))
+  pub leading-some : LeadsNumber s None → ⊥
+  leading-some o = o (length (digits z)) within is-number
