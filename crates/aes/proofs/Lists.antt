@@ -67,15 +67,16 @@ word-more key w i a b c d ge le inv ea eb ec ed (suc n) e =
     ∙ ap (λ x. x ++ abcd) (inv n m) ∙ ap (λ x. w′ ++ x) same
 
 -- a full round more
-pub round-more : (w block s s1 s2 s3 s4 : List ℕ) (n : ℕ) → 1 ≤ n → ((m : ℕ) → m + 1 ≡ n → s ≡ fullRounds w m block) → s1 ≡ subBytes s → s2 ≡ shiftRows s1 → s3 ≡ mixColumns s2 → s4 ≡ zip2 bitXor s3 (take ((16 * n + 16) - 16 * n) (drop (16 * n) w)) → (m : ℕ) → m + 1 ≡ n + 1 → s4 ≡ fullRounds w m block
-round-more w block s s1 s2 s3 s4 n ge inv e1 e2 e3 e4 zero e = absurd (omega arith)
-round-more w block s s1 s2 s3 s4 n ge inv e1 e2 e3 e4 (suc m) e =
+pub round-more : (w block s s1 : List ℕ) (n : ℕ) → 1 ≤ n → ((m : ℕ) → m + 1 ≡ n → s ≡ fullRounds w m block) → s1 ≡ zip2 bitXor (mixColumns (shiftRows (subBytes s))) (take ((16 * n + 16) - 16 * n) (drop (16 * n) w)) → (m : ℕ) → m + 1 ≡ n + 1 → s1 ≡ fullRounds w m block
+round-more w block s s1 n ge inv e1 zero e = absurd (omega arith)
+round-more w block s s1 n ge inv e1 (suc m) e =
     let k : n ≡ suc m = omega arith in
     let j : (16 * n + 16) - 16 * n ≡ 16 = omega arith in
-    e4
-    ∙ ap (λ x. zip2 bitXor s3 (take x (drop (16 * n) w))) j
-    ∙ ap (λ x. zip2 bitXor s3 (take 16 (drop (16 * x) w))) k
-    ∙ ap (addRoundKey w (suc m)) (e3 ∙ ap mixColumns (e2 ∙ ap shiftRows (e1 ∙ ap subBytes (inv m (omega arith)))))
+    let mixed = mixColumns (shiftRows (subBytes s)) in
+    e1
+    ∙ ap (λ x. zip2 bitXor mixed (take x (drop (16 * n) w))) j
+    ∙ ap (λ x. zip2 bitXor mixed (take 16 (drop (16 * x) w))) k
+    ∙ ap (λ x. addRoundKey w (suc m) (mixColumns (shiftRows (subBytes x)))) (inv m (omega arith))
 
 -- byte m of the block q of 16 bytes in the block i of 64
 pub byte-in : (w nonce part : List ℕ) (i q m : ℕ) → m < 16 → part ≡ encrypted w (nonce ++ fourBytes (4 * i + q)) → getD part m 0 < 256 → getD part m 0 ≡ byteUnder w nonce (64 * i + (16 * q + m))

@@ -112,6 +112,26 @@ fn expand(key: &[u8; 32]) -> [u8; 240]
     w
 }
 
+// A round, with 16 bytes of the expanded key.
+fn full_round(s: &mut [u8; 16], round_key: &[u8])
+    requires { ⌜ length (now «round_key») ≡ 16 ⌝ }
+    ensures { λ _. ⌜ now (s .exit) ≡ zip2 bitXor (mixColumns (shiftRows (subBytes (now (s .entry))))) (now («round_key» .entry)) ⌝ }
+{
+    sub_bytes(s);
+    *s = mix_columns(&shift_rows(s));
+    add_round_key(s, round_key);
+}
+
+// The last round, which mixes no columns.
+fn last_round(s: &mut [u8; 16], round_key: &[u8])
+    requires { ⌜ length (now «round_key») ≡ 16 ⌝ }
+    ensures { λ _. ⌜ now (s .exit) ≡ zip2 bitXor (shiftRows (subBytes (now (s .entry)))) (now («round_key» .entry)) ⌝ }
+{
+    sub_bytes(s);
+    *s = shift_rows(s);
+    add_round_key(s, round_key);
+}
+
 // A block encrypted under an expanded key.
 fn encrypt(expanded: &[u8; 240], block: &[u8; 16]) -> [u8; 16]
     ensures { λ r. ⌜ r ≡ encrypted (now (expanded .entry)) (now (block .entry)) ⌝ }
@@ -119,13 +139,9 @@ fn encrypt(expanded: &[u8; 240], block: &[u8; 16]) -> [u8; 16]
     let mut s = *block;
     add_round_key(&mut s, &expanded[0..16]);
     for n in 1..14 {
-        sub_bytes(&mut s);
-        s = mix_columns(&shift_rows(&s));
-        add_round_key(&mut s, &expanded[16 * n..16 * n + 16]);
+        full_round(&mut s, &expanded[16 * n..16 * n + 16]);
     }
-    sub_bytes(&mut s);
-    s = shift_rows(&s);
-    add_round_key(&mut s, &expanded[224..240]);
+    last_round(&mut s, &expanded[224..240]);
     s
 }
 
