@@ -11,13 +11,15 @@ ghost use mathlib.Core.List.{List, [], _∷_, _++_};
 ghost use Prim.Native.Nat.{ℕ, _+_, _-_, _*_, _/_, _%_, _^_, _<_, _≤_};
 ghost use lib.Bits.{bitXor};
 ghost use lib.Lanes.{zip2};
+ghost use Rattle.std.specs.declared.option.Option.the-variants.{None};
 ghost use lib.ListN.{length, getD, take, drop, replicate};
 ghost use Rattle.stream.specs.Stream.{StreamOf, places, run, masked};
 ghost use Rattle.hash.specs.Strength.{hashes, siv-length, subkey-bytes};
 ghost use Rattle.hash.specs.Message.{message};
 ghost use Rattle.hs1.specs.Hs1.{subkey-seed, subkey-nonce, subkeys, hs1-seed, hs1};
 ghost use Rattle.hs1.specs.Seal.{siv, under, ciphertext, same, opened};
-ghost use Rattle.hs1.specs.Checks.{input-checks, seal-checks, siv-checks, open-checks, or-else, wrong-siv, answer, put, cleared};
+ghost use Rattle.hs1.specs.Checks.{input-checks, seal-checks, siv-checks, open-checks, answer};
+ghost use Rattle.hs1.specs.Calls.{Seals, Opens, Opened-there};
 ghost use Rattle.hs1.specs.Laws.{Sealed-opens, Opened-was-sealed, One-text};
 ghost use Rattle.hs1.specs.Derived.{Derived};
 use hash::HashKeys;
@@ -182,4 +184,183 @@ fn zero(buf: &mut [u8])
     for x in buf.iter_mut() {
         *x = 0;
     }
+}
+
+// Checks key, nonce, header and text or ciphertext by their lengths.
+fn check_inputs(key: &[u8], nonce: &[u8], header: &[u8], text: &[u8]) -> Result<(), Refusal>
+    ensures { λ r. ⌜ r ≡ answer (input-checks (length (now (key .entry))) (length (now (nonce .entry))) (length (now (header .entry))) (length (now (text .entry)))) ⌝ }
+{
+    if key.is_empty() || key.len() > LONGEST_KEY {
+        return Err(Refusal::KeyLength);
+    }
+    if nonce.len() != NONCE {
+        return Err(Refusal::NonceLength);
+    }
+    if header.len() > LONGEST || text.len() > LONGEST {
+        return Err(Refusal::TooLong);
+    }
+    Ok(())
+}
+
+// Seals a text where it stands, and gives the SIV at the front of 32 bytes.
+fn seal_buffer<S: Stream>(
+    stream: &S,
+    strength: Strength,
+    key: &[u8],
+    nonce: &[u8],
+    header: &[u8],
+    text: &mut [u8],
+) -> [u8; 32]
+    requires { ⌜ input-checks (length (now key)) (length (now nonce)) (length (now header)) (length (now text)) ≡ None ⌝ }
+    ensures siv { λ r. ⌜ take (siv-length strength) r ≡ siv (S·Stream .meaning (now (stream .entry))) strength (now (key .entry)) (now (nonce .entry)) (now (header .entry)) (now (text .entry)) ⌝ }
+    ensures text { λ _. ⌜ now (text .exit) ≡ ciphertext (S·Stream .meaning (now (stream .entry))) strength (now (key .entry)) (now (nonce .entry)) (now (header .entry)) (now (text .entry)) ⌝ }
+{
+    let keys = derive_keys(stream, strength, key);
+    let nonce = nonce_12(nonce);
+    let iv = siv_bytes(stream, strength, &keys, &nonce, header, text);
+    mask_text(stream, strength, &keys, &nonce, &iv[0..strength.siv_len()], text);
+    iv
+}
+
+// Opens a ciphertext where it stands, and says whether it opened; else zeros
+// are left there.
+fn open_buffer<S: Stream>(
+    stream: &S,
+    strength: Strength,
+    key: &[u8],
+    nonce: &[u8],
+    header: &[u8],
+    iv: &[u8],
+    buf: &mut [u8],
+) -> bool
+    requires { ⌜ siv-checks strength (length (now key)) (length (now nonce)) (length (now header)) (length (now buf)) (length (now iv)) ≡ None ⌝ }
+    ensures { λ r. ⌜ Opened-there (opened (S·Stream .meaning (now (stream .entry))) strength (now (key .entry)) (now (nonce .entry)) (now (header .entry)) (now (iv .entry)) (now (buf .entry))) (length (now (buf .entry))) (now (buf .exit)) r ⌝ }
+{
+    let keys = derive_keys(stream, strength, key);
+    let nonce = nonce_12(nonce);
+    mask_text(stream, strength, &keys, &nonce, iv, buf);
+    let again = siv_bytes(stream, strength, &keys, &nonce, header, buf);
+    let good = same_bytes(iv, &again[0..strength.siv_len()]);
+    if !good {
+        zero(buf);
+    }
+    good
+}
+
+// Seals a text where it stands: the ciphertext takes its place, and the SIV
+// is written to the front of `siv_out`.
+pub fn seal_in_place<S: Stream>(
+    stream: &S,
+    strength: Strength,
+    key: &[u8],
+    nonce: &[u8],
+    header: &[u8],
+    text: &mut [u8],
+    siv_out: &mut [u8; 32],
+) -> Result<(), Refusal>
+    ensures { λ r. ⌜ Seals (input-checks (length (now (key .entry))) (length (now (nonce .entry))) (length (now (header .entry))) (length (now (text .entry)))) (S·Stream .meaning (now (stream .entry))) strength (now (key .entry)) (now (nonce .entry)) (now (header .entry)) (now (text .entry)) (now («siv_out» .entry)) (now («siv_out» .exit)) (now (text .entry)) (now (text .exit)) r ⌝ }
+{
+    check_inputs(key, nonce, header, text)?;
+    let iv = seal_buffer(stream, strength, key, nonce, header, text);
+    let len = strength.siv_len();
+    siv_out[0..len].copy_from_slice(&iv[0..len]);
+    Ok(())
+}
+
+// Opens a ciphertext where it stands: the text takes its place, or zeros do
+// where the SIV is wrong.
+pub fn open_in_place<S: Stream>(
+    stream: &S,
+    strength: Strength,
+    key: &[u8],
+    nonce: &[u8],
+    header: &[u8],
+    iv: &[u8],
+    buf: &mut [u8],
+) -> Result<(), Refusal>
+    ensures { λ r. ⌜ Opens (siv-checks strength (length (now (key .entry))) (length (now (nonce .entry))) (length (now (header .entry))) (length (now (buf .entry))) (length (now (iv .entry)))) (opened (S·Stream .meaning (now (stream .entry))) strength (now (key .entry)) (now (nonce .entry)) (now (header .entry)) (now (iv .entry)) (now (buf .entry))) (length (now (buf .entry))) (now (buf .entry)) (now (buf .exit)) r ⌝ }
+{
+    check_inputs(key, nonce, header, buf)?;
+    if iv.len() != strength.siv_len() {
+        return Err(Refusal::SivLength);
+    }
+    if open_buffer(stream, strength, key, nonce, header, iv, buf) {
+        Ok(())
+    } else {
+        Err(Refusal::WrongSiv)
+    }
+}
+
+// Seals a text: the ciphertext is written to the front of `out`, the SIV to
+// the front of `siv_out`.
+pub fn seal<S: Stream>(
+    stream: &S,
+    strength: Strength,
+    key: &[u8],
+    nonce: &[u8],
+    header: &[u8],
+    text: &[u8],
+    siv_out: &mut [u8],
+    out: &mut [u8],
+) -> Result<(), Refusal>
+    ensures { λ r. ⌜ Seals (seal-checks strength (length (now (key .entry))) (length (now (nonce .entry))) (length (now (header .entry))) (length (now (text .entry))) (length (now («siv_out» .entry))) (length (now (out .entry)))) (S·Stream .meaning (now (stream .entry))) strength (now (key .entry)) (now (nonce .entry)) (now (header .entry)) (now (text .entry)) (now («siv_out» .entry)) (now («siv_out» .exit)) (now (out .entry)) (now (out .exit)) r ⌝ }
+{
+    check_inputs(key, nonce, header, text)?;
+    let len = strength.siv_len();
+    if siv_out.len() < len || out.len() < text.len() {
+        return Err(Refusal::ShortOutput);
+    }
+    let part = &mut out[0..text.len()];
+    part.copy_from_slice(text);
+    let iv = seal_buffer(stream, strength, key, nonce, header, part);
+    siv_out[0..len].copy_from_slice(&iv[0..len]);
+    Ok(())
+}
+
+// Opens a ciphertext: the text is written to the front of `out`, or zeros are
+// where the SIV is wrong.
+pub fn open<S: Stream>(
+    stream: &S,
+    strength: Strength,
+    key: &[u8],
+    nonce: &[u8],
+    header: &[u8],
+    iv: &[u8],
+    cipher: &[u8],
+    out: &mut [u8],
+) -> Result<(), Refusal>
+    ensures { λ r. ⌜ Opens (open-checks strength (length (now (key .entry))) (length (now (nonce .entry))) (length (now (header .entry))) (length (now (cipher .entry))) (length (now (iv .entry))) (length (now (out .entry)))) (opened (S·Stream .meaning (now (stream .entry))) strength (now (key .entry)) (now (nonce .entry)) (now (header .entry)) (now (iv .entry)) (now (cipher .entry))) (length (now (cipher .entry))) (now (out .entry)) (now (out .exit)) r ⌝ }
+{
+    check_inputs(key, nonce, header, cipher)?;
+    if iv.len() != strength.siv_len() {
+        return Err(Refusal::SivLength);
+    }
+    if out.len() < cipher.len() {
+        return Err(Refusal::ShortOutput);
+    }
+    let part = &mut out[0..cipher.len()];
+    part.copy_from_slice(cipher);
+    if open_buffer(stream, strength, key, nonce, header, iv, part) {
+        Ok(())
+    } else {
+        Err(Refusal::WrongSiv)
+    }
+}
+
+// The law that what was sealed opens to the same text.
+pub fn sealed_opens()
+    ensures { λ _. ⌜ Sealed-opens ⌝ }
+{
+}
+
+// The law that what opens is what sealing gives, byte for byte.
+pub fn opened_was_sealed()
+    ensures { λ _. ⌜ Opened-was-sealed ⌝ }
+{
+}
+
+// The law that a SIV and a ciphertext have at most one text.
+pub fn one_text()
+    ensures { λ _. ⌜ One-text ⌝ }
+{
 }
