@@ -37,9 +37,9 @@ pub turned-block : (k : List ℕ) (kP h : ℕ) (b m : List ℕ) → length b ≡
 turned-block k kP h b m e lt =
     let n : (length (b ++ m) - 1) / 64 ≡ suc ((length m - 1) / 64) = omega (arith, length-append b m) in
     let c : cut ((length (b ++ m) - 1) / 64) (b ++ m) ≡ b ∷ cut ((length m - 1) / 64) m =
-        ap (λ x. cut x (b ++ m)) n
-        ∙ ap (λ x. x ∷ cut ((length m - 1) / 64) (drop 64 (b ++ m))) (take-at b m 64 e)
-        ∙ ap (λ x. b ∷ cut ((length m - 1) / 64) x) (drop-at b m 64 e)
+    ap (λ x. cut x (b ++ m)) n
+    ∙ ap (λ x. x ∷ cut ((length m - 1) / 64) (drop 64 (b ++ m))) (take-at b m 64 e)
+    ∙ ap (λ x. b ∷ cut ((length m - 1) / 64) x) (drop-at b m 64 e)
     in
     ap (turned k kP h) c
 
@@ -135,8 +135,8 @@ last-words b n e le =
     let full = b ++ replicate (64 - n) 0 in
     let tail : List ℕ = replicate (64 - n - z) 0 in
     let split : pad 16 b ++ tail ≡ full =
-        append-assoc b (replicate z 0) tail
-        ∙ ap (λ x. b ++ x) (replicate-append-replicate z (64 - n - z) 0 ∙ ap (λ x. replicate x 0) (omega arith))
+    append-assoc b (replicate z 0) tail
+    ∙ ap (λ x. b ++ x) (replicate-append-replicate z (64 - n - z) 0 ∙ ap (λ x. replicate x 0) (omega arith))
     in
     let l : length full ≡ 64 = length-append b (replicate (64 - n) 0) ∙ ap (λ x. length b + x) (length-replicate (64 - n) 0) ∙ omega arith in
     let lp : length (pad 16 b) ≡ length b + z = length-append b (replicate z 0) ∙ ap (λ x. length b + x) (length-replicate z 0) in
@@ -165,7 +165,7 @@ finish-words s words last fits within e w =
     let b = waiting s in
     let n : length b ≡ s .fill = length-take-le (s .fill) (s .block) within in
     let f : last ≡ b ++ replicate (64 - s .fill) 0 =
-        e ∙ ap (λ x. take x (s .block) ++ replicate (64 - length (take x (s .block))) 0) (sub-zero (s .fill)) ∙ ap (λ x. b ++ replicate (64 - x) 0) n
+    e ∙ ap (λ x. take x (s .block) ++ replicate (64 - length (take x (s .block))) 0) (sub-zero (s .fill)) ∙ ap (λ x. b ++ replicate (64 - x) 0) n
     in
     ap (λ x. take x words) (sub-zero ((s .fill + 15) / 16 * 4))
     ∙ ap (take ((s .fill + 15) / 16 * 4)) (w ∙ ap (ints 4) f)
@@ -176,8 +176,8 @@ pub holds-padded : (keys : HashKeys) (t : ℕ) (s : Hasher) (seen part : List �
 holds-padded keys t s seen part h =
     let z = (16 - length part % 16) % 16 in
     let e : (seen ++ part) ++ take (z - 0) (replicate 16 0) ≡ seen ++ pad 16 part =
-        ap (λ x. (seen ++ part) ++ take x (replicate 16 0)) (sub-zero z)
-        ∙ ap (λ x. (seen ++ part) ++ x) (take-replicate z 16 0 (omega arith))
-        ∙ append-assoc seen part (replicate z 0)
+    ap (λ x. (seen ++ part) ++ take x (replicate 16 0)) (sub-zero z)
+    ∙ ap (λ x. (seen ++ part) ++ x) (take-replicate z 16 0 (omega arith))
+    ∙ append-assoc seen part (replicate z 0)
     in
     subst (Holds keys t s) e h

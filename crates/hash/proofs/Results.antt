@@ -56,11 +56,11 @@ result-more s k h i out after part e p f =
     let y = result s (take 3 (drop (3 * i) k)) (h i) in
     let c : 32 - w * i - w ≡ 32 - w * suc i = omega (arith, mul-suc w i) in
     rw add-one (
-      f
-      ∙ ap (λ x. putMid (w * i) w x (result s part (h i))) e
-      ∙ ap (λ x. putMid (w * i) w (r ++ replicate (32 - w * i) 0) (result s x (h i))) p
-      ∙ write-more (w * i) w (32 - w * i) r y (length-results s k h i)
-      ∙ ap (λ x. (r ++ y) ++ replicate x 0) c)
+    f
+    ∙ ap (λ x. putMid (w * i) w x (result s part (h i))) e
+    ∙ ap (λ x. putMid (w * i) w (r ++ replicate (32 - w * i) 0) (result s x (h i))) p
+    ∙ write-more (w * i) w (32 - w * i) r y (length-results s k h i)
+    ∙ ap (λ x. (r ++ y) ++ replicate x 0) c)
 
 -- all results written
 pub results-padded : (s : Strength) (k : List ℕ) (h : ℕ → ℕ) → results s k h (hashes s) ++ replicate (32 - result-width s * hashes s) 0 ≡ pad 32 (results s k h (hashes s))

@@ -21,10 +21,10 @@ pub hashed-from : (s : Strength) (keys : HashKeys) (hasher : Hasher) (t : ℕ) (
 unfolding hashed h-at
 hashed-from s keys hasher t seen m after r n e h f g =
     g ∙ ap (pad 32) (results-same s (keys .«k_a») _ _ (hashes s) (λ i lt.
-      f i (rw n lt)
-      ∙ h i (rw n lt) []
-      ∙ ap (h-of (nh-part keys i) (poly-point keys i)) (append-nil seen ∙ e)
-      ∙ ap (λ x. h-of (nh-part keys i) x m) (sym (getD-below60 (keys .«k_p») i))))
+    f i (rw n lt)
+    ∙ h i (rw n lt) []
+    ∙ ap (h-of (nh-part keys i) (poly-point keys i)) (append-nil seen ∙ e)
+    ∙ ap (λ x. h-of (nh-part keys i) x m) (sym (getD-below60 (keys .«k_p») i))))
 
 -- the message, taken in part by part
 pub message-is : (header text a b : List ℕ) → a ≡ str 8 (length header) → b ≡ str 8 (length text) → ((([] ++ pad 16 header) ++ pad 16 text) ++ a) ++ b ≡ message header text
@@ -60,10 +60,10 @@ hashed-front s kN kP kA m =
     let t = hashes s in
     let some = hashes-some s in
     ap (pad 32) (
-      results-parts s (take (3 * t) kA) kA _ t (λ i lt. part-within (3 * i) 3 (3 * t) kA (omega arith))
-      ∙ results-same s kA _ _ t (λ i lt.
-        ap (λ x. h-of x (getD (below60 (take t kP)) i 0) m) (part-within (4 * i) 16 (nh-words s) kN (omega arith))
-        ∙ ap (λ x. h-of (take 16 (drop (4 * i) kN)) x m) (getD-below60 (take t kP) i ∙ ap (λ x. x % 2 ^ 60) (getD-take t kP i 0 lt) ∙ sym (getD-below60 kP i))))
+    results-parts s (take (3 * t) kA) kA _ t (λ i lt. part-within (3 * i) 3 (3 * t) kA (omega arith))
+    ∙ results-same s kA _ _ t (λ i lt.
+    ap (λ x. h-of x (getD (below60 (take t kP)) i 0) m) (part-within (4 * i) 16 (nh-words s) kN (omega arith))
+    ∙ ap (λ x. h-of (take 16 (drop (4 * i) kN)) x m) (getD-below60 (take t kP) i ∙ ap (λ x. x % 2 ^ 60) (getD-take t kP i 0 lt) ∙ sym (getD-below60 kP i))))
 
 -- the hash under the subkeys that were read
 pub hashed-read : (s : Strength) (bytes : List ℕ) (keys : HashKeys) (m : List ℕ) → Reads s bytes keys → hashed s (keys .«k_n») (below60 (keys .«k_p»)) (keys .«k_a») m ≡ hashed-by s bytes m

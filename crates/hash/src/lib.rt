@@ -93,10 +93,12 @@ fn nh_sum(k: &[u32], m: &[u32]) -> u64
 {
     let mut sum: u64 = 0;
     for j in 0..m.len() / 4 {
-        let even = (k[4 * j] as u64 + m[4 * j] as u64)
-            .wrapping_mul(k[4 * j + 2] as u64 + m[4 * j + 2] as u64);
-        let odd = (k[4 * j + 1] as u64 + m[4 * j + 1] as u64)
-            .wrapping_mul(k[4 * j + 3] as u64 + m[4 * j + 3] as u64);
+        let even = (k[4 * j] as u64 + m[4 * j] as u64).wrapping_mul(
+            k[4 * j + 2] as u64 + m[4 * j + 2] as u64,
+        );
+        let odd = (k[4 * j + 1] as u64 + m[4 * j + 1] as u64).wrapping_mul(
+            k[4 * j + 3] as u64 + m[4 * j + 3] as u64,
+        );
         sum = sum.wrapping_add(even).wrapping_add(odd);
     }
     sum
@@ -142,7 +144,12 @@ fn read_words(bytes: &[u8], out: &mut [u32])
     ensures { λ _. ⌜ now (out .exit) ≡ ints 4 (now (bytes .entry)) ⌝ }
 {
     for i in 0..out.len() {
-        let word = [bytes[4 * i], bytes[4 * i + 1], bytes[4 * i + 2], bytes[4 * i + 3]];
+        let word = [
+            bytes[4 * i],
+            bytes[4 * i + 1],
+            bytes[4 * i + 2],
+            bytes[4 * i + 3],
+        ];
         out[i] = u32::from_le_bytes(word);
     }
 }
@@ -153,8 +160,18 @@ fn read_numbers(bytes: &[u8], out: &mut [u64])
     ensures { λ _. ⌜ now (out .exit) ≡ ints 8 (now (bytes .entry)) ⌝ }
 {
     for i in 0..out.len() {
-        let low = [bytes[8 * i], bytes[8 * i + 1], bytes[8 * i + 2], bytes[8 * i + 3]];
-        let high = [bytes[8 * i + 4], bytes[8 * i + 5], bytes[8 * i + 6], bytes[8 * i + 7]];
+        let low = [
+            bytes[8 * i],
+            bytes[8 * i + 1],
+            bytes[8 * i + 2],
+            bytes[8 * i + 3],
+        ];
+        let high = [
+            bytes[8 * i + 4],
+            bytes[8 * i + 5],
+            bytes[8 * i + 6],
+            bytes[8 * i + 7],
+        ];
         out[i] = u32::from_le_bytes(low) as u64 + u32::from_le_bytes(high) as u64 * 0x1_0000_0000;
     }
 }
@@ -254,7 +271,8 @@ impl Hasher {
     {
         let fill = self.fill;
         let count = part.len().min(BLOCK - fill);
-        self.block[fill..fill + count].copy_from_slice(&part[0..count]);
+        self.block[fill..fill + count]
+            .copy_from_slice(&part[0..count]);
         self.fill = fill + count;
         count
     }
@@ -309,7 +327,13 @@ impl Hasher {
         let mut words = [0; 16];
         read_words(&last, &mut words);
         let count = (fill + 15) / 16 * 4;
-        turn_all(&mut self.running, keys, t, &words[0..count], (fill % 16) as u64);
+        turn_all(
+            &mut self.running,
+            keys,
+            t,
+            &words[0..count],
+            (fill % 16) as u64,
+        );
     }
 }
 

@@ -117,9 +117,9 @@ pub granted-opens : (o : Option Refusal) (text : Option (List ℕ)) (n : ℕ) (w
 granted-opens o text n was front after good r e h a t f =
     record {
       answer-is =
-        ⊎-elim
-        (λ (g : good ≡ true). t g ∙ sym (opened-answer o text e (sym (h .good-is) ∙ g)))
-        (λ (g : good ≡ false). f g ∙ sym (wrong-answer o text e (sym (h .good-is) ∙ g)))
-        (cases-bool good);
+          ⊎-elim
+          (λ (g : good ≡ true). t g ∙ sym (opened-answer o text e (sym (h .good-is) ∙ g)))
+          (λ (g : good ≡ false). f g ∙ sym (wrong-answer o text e (sym (h .good-is) ∙ g)))
+          (cases-bool good);
       out-is = a (h .after-is);
     }

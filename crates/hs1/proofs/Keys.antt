@@ -37,9 +37,9 @@ repeated-at (suc n) key i some lt =
     ⊎-elim
     (λ (h : i < l). getD-append-left key (repeated n key) 0 i h ∙ ap (λ x. getD key x 0) (sym (mod-eq-of-lt h)))
     (λ (h : l ≤ i).
-      getD-append-right key (repeated n key) l i 0 refl h
-      ∙ repeated-at n key (i - l) some (omega (arith, suc-mul n l))
-      ∙ ap (λ x. getD key x 0) (sym (mod-eq-sub-mod h)))
+    getD-append-right key (repeated n key) l i 0 refl h
+    ∙ repeated-at n key (i - l) some (omega (arith, suc-mul n l))
+    ∙ ap (λ x. getD key x 0) (sym (mod-eq-sub-mod h)))
     (cases-lt i l)
 
 pub seed-is : (key seed : List ℕ) → 0 < length key → length seed ≡ 32 → ((k : ℕ) → k < 32 → getD seed k 0 ≡ getD key (k % length key) 0) → seed ≡ subkey-seed key
@@ -88,12 +88,12 @@ bytes-are f s key seed nonce part r n e g h i p =
     let fits = subkeys-fit s in
     let z : n - 0 ≡ subkey-bytes s = sub-zero n ∙ i in
     let q : part ≡ subkeys f s key =
-        p
-        ∙ ap (λ x. masked (f .byte seed nonce) 0 (take x (replicate 368 0))) z
-        ∙ ap (masked (f .byte seed nonce) 0) (take-replicate (subkey-bytes s) 368 0 (fits .1))
-        ∙ masked-zeros (f .byte seed nonce) 0 (subkey-bytes s)
-        ∙ ap (λ x. run (f .byte x nonce) 0 (subkey-bytes s)) e
-        ∙ ap (λ x. run (f .byte (subkey-seed key) x) 0 (subkey-bytes s)) (g ∙ ap (λ x. subkey-nonce s x (length key)) h)
+    p
+    ∙ ap (λ x. masked (f .byte seed nonce) 0 (take x (replicate 368 0))) z
+    ∙ ap (masked (f .byte seed nonce) 0) (take-replicate (subkey-bytes s) 368 0 (fits .1))
+    ∙ masked-zeros (f .byte seed nonce) 0 (subkey-bytes s)
+    ∙ ap (λ x. run (f .byte x nonce) 0 (subkey-bytes s)) e
+    ∙ ap (λ x. run (f .byte (subkey-seed key) x) 0 (subkey-bytes s)) (g ∙ ap (λ x. subkey-nonce s x (length key)) h)
     in
     ap (λ x. x ++ drop (n - 0) (replicate 368 0)) q
     ∙ ap (λ x. subkeys f s key ++ drop x (replicate 368 0)) z

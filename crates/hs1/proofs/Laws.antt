@@ -26,7 +26,7 @@ sealed-opens f s key nonce header text =
     let iv = siv f s key nonce header text in
     let u = under-under f s key nonce iv text in
     let t : same iv (siv f s key nonce header (under f s key nonce iv (under f s key nonce iv text))) ≡ true =
-        ap (λ x. same iv (siv f s key nonce header x)) u ∙ same-refl iv
+    ap (λ x. same iv (siv f s key nonce header x)) u ∙ same-refl iv
     in
     ap (λ b. cond b (Some (under f s key nonce iv (under f s key nonce iv text))) None) t ∙ ap Some u
 
@@ -40,9 +40,10 @@ unfolding ciphertext opened
 opened-was-sealed f s key nonce header iv cipher text e =
     let u = under f s key nonce iv cipher in
     let p = passed (same iv (siv f s key nonce header u)) u text e in
-    let v : siv f s key nonce header text ≡ iv = ap (siv f s key nonce header) (sym (p .1)) ∙ sym (same-is iv (siv f s key nonce header u) (p .0)) in
-    ( v
-    , ap (λ x. under f s key nonce x text) v ∙ ap (under f s key nonce iv) (sym (p .1)) ∙ under-under f s key nonce iv cipher)
+    let v : siv f s key nonce header text ≡ iv = ap (siv f s key nonce header) (sym (p .1)) ∙ sym (same-is iv (siv f s key nonce header u) (p .0)) in (
+      v,
+      ap (λ x. under f s key nonce x text) v ∙ ap (under f s key nonce iv) (sym (p .1)) ∙ under-under f s key nonce iv cipher,
+    )
 
 pub one-text : One-text
 unfolding ciphertext

@@ -67,11 +67,12 @@ length-siv f s key nonce header text = length-run (hs1 f s key nonce (message he
 -- the comparison that opening makes
 pub compared : (f : StreamOf) (s : Strength) (key nonce nonce′ header iv cipher text again : List ℕ) (n : ℕ) (good : Bool) → nonce′ ≡ nonce → text ≡ under f s key nonce′ iv cipher → take (siv-length s) again ≡ siv f s key nonce′ header text → n ≡ siv-length s → good ≡ same iv (take (n - 0) again) → (text ≡ under f s key nonce iv cipher) × (good ≡ same iv (siv f s key nonce header (under f s key nonce iv cipher)))
 compared f s key nonce nonce′ header iv cipher text again n good e t a l g =
-    let u : text ≡ under f s key nonce iv cipher = t ∙ ap (λ x. under f s key x iv cipher) e in
-    ( u
-    , g
-      ∙ ap (λ x. same iv (take x again)) (sub-zero n ∙ l)
-      ∙ ap (same iv) (a ∙ ap (λ x. siv f s key x header text) e ∙ ap (siv f s key nonce header) u))
+    let u : text ≡ under f s key nonce iv cipher = t ∙ ap (λ x. under f s key x iv cipher) e in (
+      u,
+      g
+          ∙ ap (λ x. same iv (take x again)) (sub-zero n ∙ l)
+          ∙ ap (same iv) (a ∙ ap (λ x. siv f s key x header text) e ∙ ap (siv f s key nonce header) u),
+    )
 
 pub opens-good : (f : StreamOf) (s : Strength) (key nonce header iv cipher text : List ℕ) (n : ℕ) (good : Bool) → (text ≡ under f s key nonce iv cipher) × (good ≡ same iv (siv f s key nonce header (under f s key nonce iv cipher))) → good ≡ true → Opened-there (opened f s key nonce header iv cipher) n text good
 unfolding opened

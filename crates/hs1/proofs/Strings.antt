@@ -42,22 +42,23 @@ Compared a b i differ =
 pub compared-more : (a b : List ℕ) (i differ : ℕ) → Compared a b i differ → Compared a b (i + 1) (bitOr differ (bitXor (getD a i 0) (getD b i 0)))
 compared-more a b i differ h =
     let x = getD a i 0 in
-    let y = getD b i 0 in
-    ( (λ e. let p = or-none differ (bitXor x y) e in below-more (λ k. getD a k 0 ≡ getD b k 0) i (h .0 (p .0)) (xor-none x y (p .1)))
-    , (λ all.
-        let z : differ ≡ 0 = h .1 (λ k l. all k (omega arith)) in
-        let w : bitXor x y ≡ 0 = ap (λ v. bitXor v y) (all i (omega arith)) ∙ xor-self y in
-        ap (λ v. bitOr v (bitXor x y)) z ∙ w))
+    let y = getD b i 0 in (
+      (λ e. let p = or-none differ (bitXor x y) e in below-more (λ k. getD a k 0 ≡ getD b k 0) i (h .0 (p .0)) (xor-none x y (p .1))),
+      (λ all.
+          let z : differ ≡ 0 = h .1 (λ k l. all k (omega arith)) in
+          let w : bitXor x y ≡ 0 = ap (λ v. bitXor v y) (all i (omega arith)) ∙ xor-self y in
+          ap (λ v. bitOr v (bitXor x y)) z ∙ w),
+    )
 
 pub compared-all : (a b : List ℕ) (i differ : ℕ) → length a ≡ length b → length a ≤ i → i ≤ length a → Compared a b i differ → eqb differ 0 ≡ same a b
 compared-all a b i differ l le ge h =
     ⊎-elim
     (λ (z : differ ≡ 0).
-      let e : a ≡ b = ext-getD 0 a b l (λ k lt. h .0 z k (omega arith)) in
-      eq-eqb differ 0 z ∙ sym (ap (λ x. same x b) e ∙ same-refl b))
+    let e : a ≡ b = ext-getD 0 a b l (λ k lt. h .0 z k (omega arith)) in
+    eq-eqb differ 0 z ∙ sym (ap (λ x. same x b) e ∙ same-refl b))
     (λ ne.
-      ne-eqb differ 0 ne
-      ∙ sym (⊎-elim (λ (t : same a b ≡ true). absurd (ne (h .1 (λ k lt. ap (λ x. getD x k 0) (same-is a b t))))) (λ (f : same a b ≡ false). f) (cases-bool (same a b))))
+    ne-eqb differ 0 ne
+    ∙ sym (⊎-elim (λ (t : same a b ≡ true). absurd (ne (h .1 (λ k lt. ap (λ x. getD x k 0) (same-is a b t))))) (λ (f : same a b ≡ false). f) (cases-bool (same a b))))
     (cases-eq differ 0)
 
 pub xored : (a b out : List ℕ) → length a ≡ 32 → length b ≡ 32 → length out ≡ 32 → ((k : ℕ) → k < 32 → getD out k 0 ≡ bitXor (getD a k 0) (getD b k 0)) → out ≡ zip2 bitXor a b

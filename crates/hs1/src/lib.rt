@@ -91,7 +91,13 @@ fn subkey_stream<S: Stream>(stream: &S, strength: Strength, key: &[u8]) -> [u8; 
     let seed = repeat_key(key);
     let nonce = make_nonce(strength, stream.rounds(), key.len());
     let mut bytes = [0; 368];
-    mask(stream, &seed, &nonce, 0, &mut bytes[0..strength.subkey_len()]);
+    mask(
+        stream,
+        &seed,
+        &nonce,
+        0,
+        &mut bytes[0..strength.subkey_len()],
+    );
     bytes
 }
 
@@ -218,7 +224,14 @@ fn seal_buffer<S: Stream>(
     let keys = derive_keys(stream, strength, key);
     let nonce = nonce_12(nonce);
     let iv = siv_bytes(stream, strength, &keys, &nonce, header, text);
-    mask_text(stream, strength, &keys, &nonce, &iv[0..strength.siv_len()], text);
+    mask_text(
+        stream,
+        strength,
+        &keys,
+        &nonce,
+        &iv[0..strength.siv_len()],
+        text,
+    );
     iv
 }
 
@@ -350,17 +363,14 @@ pub fn open<S: Stream>(
 // The law that what was sealed opens to the same text.
 pub fn sealed_opens()
     ensures { λ _. ⌜ Sealed-opens ⌝ }
-{
-}
+{}
 
 // The law that what opens is what sealing gives, byte for byte.
 pub fn opened_was_sealed()
     ensures { λ _. ⌜ Opened-was-sealed ⌝ }
-{
-}
+{}
 
 // The law that a SIV and a ciphertext have at most one text.
 pub fn one_text()
     ensures { λ _. ⌜ One-text ⌝ }
-{
-}
+{}

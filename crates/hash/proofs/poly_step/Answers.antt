@@ -19,12 +19,13 @@ pub loop-i-again : need.loop-i-again
 loop-i-again c =
     let w = c .loop-i .power in
     let d = c .loop-i .digits in
-    let le = product-le w d (c .loop-i .inv .2) in
-    ( step (c .loop-i .low) (c .loop-i .high) w d ∙ c .loop-i .inv .0
-    , digits-more d _ (c .loop-i .-i) (c .loop-i .inv .1)
-    , omega arith
-    , omega arith
-    , omega arith)
+    let le = product-le w d (c .loop-i .inv .2) in (
+      step (c .loop-i .low) (c .loop-i .high) w d ∙ c .loop-i .inv .0,
+      digits-more d _ (c .loop-i .-i) (c .loop-i .inv .1),
+      omega arith,
+      omega arith,
+      omega arith,
+    )
 
 pub returns : need.returns
 unfolding turn

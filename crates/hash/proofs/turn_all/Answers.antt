@@ -22,10 +22,11 @@ loop-i-again c =
     let was = c .args .running .now in
     let inv = c .loop-i .inv in
     let lt : i < length now = omega arith in
-    let n = number-is keys words i (c .nh-sum .result) (c .args .odd) (c .nh-sum .ensures) in
-    ( length-set now i _ ∙ inv .0
-    , turns-more keys i (λ j. nh (nh-part keys j) words % 2 ^ 60 + c .args .odd) was now (c .poly-step .result) lt (inv .1) (inv .2) (c .poly-step .ensures ∙ ap (turn (poly-point keys i) (getD now i 0)) n)
-    , rest-more i was now (c .poly-step .result) (inv .2))
+    let n = number-is keys words i (c .nh-sum .result) (c .args .odd) (c .nh-sum .ensures) in (
+      length-set now i _ ∙ inv .0,
+      turns-more keys i (λ j. nh (nh-part keys j) words % 2 ^ 60 + c .args .odd) was now (c .poly-step .result) lt (inv .1) (inv .2) (c .poly-step .ensures ∙ ap (turn (poly-point keys i) (getD now i 0)) n),
+      rest-more i was now (c .poly-step .result) (inv .2),
+    )
 
 pub loop-i-holds : need.loop-i-holds
 loop-i-holds c = (search needs, record { below = c .pre .1 .1 .1; turns = λ i h. absurd (omega arith) }, λ k h. refl)

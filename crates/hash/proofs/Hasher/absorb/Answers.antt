@@ -14,10 +14,11 @@ loop-at-again c =
     let part = c .args .part .now in
     let at = c .loop-at .at in
     let n = length-take (length part - at) (drop at part) in
-    let d = length-drop at part in
-    ( c .take-next-at .ensures .sound
-    , omega (arith, c .take-next-at .ensures .count .1)
-    , pass-more (c .args .keys .now) (c .args .t) (c .args .self .now) (c .loop-at .self) _ part at _ (c .loop-at .inv .2) (c .take-next-at .ensures .goes))
+    let d = length-drop at part in (
+      c .take-next-at .ensures .sound,
+      omega (arith, c .take-next-at .ensures .count .1),
+      pass-more (c .args .keys .now) (c .args .t) (c .args .self .now) (c .loop-at .self) _ part at _ (c .loop-at .inv .2) (c .take-next-at .ensures .goes),
+    )
 
 pub returns : need.returns
 returns c =
