@@ -7,7 +7,7 @@ use lib.Chars.{codes}
 use lib.Dec.{eqb}
 use Rattle.std.specs.declared.option.Option.{Option}
 use Rattle.std.specs.declared.option.Option.the-variants.{Some, None}
-use Rattle.hs1.specs.Seal.{same}
+use Rattle.std.specs.shelf.Text.{sameBytes}
 use Rattle.hash.specs.declared.Strength.{Strength}
 use Rattle.hash.specs.declared.Strength.the-variants.{Lo, Mid, Hi}
 use Rattle.stream.specs.Stream.{StreamOf}
@@ -41,7 +41,7 @@ suite n =
 -- The suite of a name, if there is one.
 abbrev pub named : List ℕ → Option Suite
 named n =
-    cond (same n (table Hs1SivLo .name)) (Some Hs1SivLo)
-    (cond (same n (table Hs1Siv .name)) (Some Hs1Siv)
-    (cond (same n (table Hs1SivHi .name)) (Some Hs1SivHi)
-    (cond (same n (table LoftAes .name)) (Some LoftAes) None)))
+    cond (sameBytes n (table Hs1SivLo .name)) (Some Hs1SivLo)
+    (cond (sameBytes n (table Hs1Siv .name)) (Some Hs1Siv)
+    (cond (sameBytes n (table Hs1SivHi .name)) (Some Hs1SivHi)
+    (cond (sameBytes n (table LoftAes .name)) (Some LoftAes) None)))

@@ -6,7 +6,6 @@ mod c;
 
 pub use c::koqarpi_open;
 pub use c::koqarpi_seal;
-
 ghost use mathlib.Core.Path.{_≡_};
 ghost use Rattle.suites.specs.Suites.{table, suite, named};
 ghost use Rattle.suites.specs.Calls.{Found, SealsBy, OpensBy};
@@ -95,21 +94,58 @@ pub fn seal_suite(
 ) -> Result<(), Refusal>
     ensures { λ r. ⌜ SealsBy (suite number) (now (key .entry)) (now (nonce .entry)) (now (header .entry)) (now (text .entry)) (now («siv_out» .entry)) (now («siv_out» .exit)) (now (out .entry)) (now (out .exit)) r ⌝ }
 {
-    match Suite::by_number(number)? {
+    let suite = Suite::by_number(number)?;
+    match suite {
         Suite::Hs1SivLo => {
             let stream = ChaCha::new(8)?;
-            hs1::seal(&stream, Strength::Lo, key, nonce, header, text, siv_out, out)
+            hs1::seal(
+                &stream,
+                Strength::Lo,
+                key,
+                nonce,
+                header,
+                text,
+                siv_out,
+                out,
+            )
         }
         Suite::Hs1Siv => {
             let stream = ChaCha::new(12)?;
-            hs1::seal(&stream, Strength::Mid, key, nonce, header, text, siv_out, out)
+            hs1::seal(
+                &stream,
+                Strength::Mid,
+                key,
+                nonce,
+                header,
+                text,
+                siv_out,
+                out,
+            )
         }
         Suite::Hs1SivHi => {
             let stream = ChaCha::new(20)?;
-            hs1::seal(&stream, Strength::Hi, key, nonce, header, text, siv_out, out)
+            hs1::seal(
+                &stream,
+                Strength::Hi,
+                key,
+                nonce,
+                header,
+                text,
+                siv_out,
+                out,
+            )
         }
         Suite::LoftAes => {
-            hs1::seal(&Aes256, Strength::Mid, key, nonce, header, text, siv_out, out)
+            hs1::seal(
+                &Aes256,
+                Strength::Mid,
+                key,
+                nonce,
+                header,
+                text,
+                siv_out,
+                out,
+            )
         }
     }
 }
@@ -127,7 +163,8 @@ pub fn open_suite(
 ) -> Result<(), Refusal>
     ensures { λ r. ⌜ OpensBy (suite number) (now (key .entry)) (now (nonce .entry)) (now (header .entry)) (now (iv .entry)) (now (cipher .entry)) (now (out .entry)) (now (out .exit)) r ⌝ }
 {
-    match Suite::by_number(number)? {
+    let named = Suite::by_number(number)?;
+    match named {
         Suite::Hs1SivLo => {
             let stream = ChaCha::new(8)?;
             hs1::open(&stream, Strength::Lo, key, nonce, header, iv, cipher, out)

@@ -5,10 +5,12 @@ use Rattle.aes.proofs.Lists.{round-more}
 use Rattle.aes.proofs.encrypt.Needs as need
 
 pub loop-n-holds : need.loop-n-holds
-loop-n-holds c =
-    (c .add-round-key .array-long, λ m e.
+loop-n-holds c = (
+  c .add-round-key .array-long,
+  λ m e.
       let z : 0 ≡ m = omega arith in
-      c .add-round-key .ensures ∙ ap (λ m. fullRounds (c .args .expanded .now) m (c .args .block .now)) z)
+      c .add-round-key .ensures ∙ ap (λ m. fullRounds (c .args .expanded .now) m (c .args .block .now)) z,
+)
 
 pub loop-n-again : need.loop-n-again
 loop-n-again c =

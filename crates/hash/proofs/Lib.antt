@@ -1,0 +1,7 @@
+pub mod Ints
+mod Poly
+mod Wrap
+mod Turns
+mod Blocks
+mod Results
+pub mod Whole

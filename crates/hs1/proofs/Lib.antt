@@ -1,0 +1,5 @@
+mod Keys
+mod Strings
+mod Sealing
+mod Checked
+pub mod Laws
