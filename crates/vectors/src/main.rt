@@ -6,10 +6,17 @@
 //! - `# TITLE` begins a group of cases;
 //! - `STREAM seed nonce place bytes`: those bytes stand there in the stream;
 //! - `xor STREAM seed nonce place text masked`: the text is masked to that;
-//! - `block aes256 key text encrypted`: AES-256 encrypts the block to that.
+//! - `block aes256 key text encrypted`: AES-256 encrypts the block to that;
+//! - `bare suite key nonce header text siv ciphertext`: sealing gives that SIV
+//!   and ciphertext, and opening gives the text back;
+//! - `seal suite key nonce header text siv siv_room out_room refused siv_after
+//!   out_after` and `open ..` alike: the call is made with buffers of those
+//!   sizes, filled with aa, answers that number (0 for done) and leaves those
+//!   bytes.
 //!
 //! A group's line on standard output says how many of its cases agree.
 
+mod bare;
 mod hex;
 
 use aes::Aes256;
@@ -106,10 +113,9 @@ fn make_masking(
     })
 }
 
-// Whether a case agrees.
-fn agrees(heap: Global, line: &str) -> Result<bool, AnyError> {
-    let fields: Vec<&str> = line.split(' ').collect(heap)?;
-    match fields.as_slice() {
+// Whether a case of a stream agrees.
+fn stream_agrees(heap: Global, fields: &[&str]) -> Result<bool, AnyError> {
+    match fields {
         ["xor", name, seed, nonce, place, text, masked] => {
             let text = decode(heap, text)?;
             masks(name, make_masking(heap, seed, nonce, place, text, masked)?)
@@ -124,6 +130,48 @@ fn agrees(heap: Global, line: &str) -> Result<bool, AnyError> {
             masks(name, make_masking(heap, seed, nonce, place, zeros, bytes)?)
         }
         _ => Err("a line that is no case".into()),
+    }
+}
+
+// Whether sealing with those arguments does what it should.
+fn seal_agrees(heap: Global, fields: &[&str]) -> Result<bool, AnyError> {
+    match fields {
+        ["seal", suite, key, nonce, header, text, _, a, b, c, d, e] => {
+            bare::seals(heap, &[suite, key, nonce, header, text], &[a, b, c, d, e])
+        }
+        _ => Err("a line that is no case of sealing".into()),
+    }
+}
+
+// Whether opening with those arguments does what it should.
+fn open_agrees(heap: Global, fields: &[&str]) -> Result<bool, AnyError> {
+    match fields {
+        ["open", suite, key, nonce, header, cipher, siv, a, b, c, d, e] => {
+            bare::opens(heap, &[suite, key, nonce, header, cipher], siv, &[a, b, c, d, e])
+        }
+        _ => Err("a line that is no case of opening".into()),
+    }
+}
+
+// Whether sealing and opening again does what it should.
+fn bare_agrees(heap: Global, fields: &[&str]) -> Result<bool, AnyError> {
+    match fields {
+        ["bare", suite, key, nonce, header, text, siv, cipher] => {
+            bare::both_ways(heap, &[suite, key, nonce, header, text, siv, cipher])
+        }
+        _ => Err("a line that is no case of sealing and opening".into()),
+    }
+}
+
+// Whether a case agrees.
+fn agrees(heap: Global, line: &str) -> Result<bool, AnyError> {
+    let fields: Vec<&str> = line.split(' ').collect(heap)?;
+    let fields = fields.as_slice();
+    match fields {
+        ["seal", ..] => seal_agrees(heap, fields),
+        ["open", ..] => open_agrees(heap, fields),
+        ["bare", ..] => bare_agrees(heap, fields),
+        _ => stream_agrees(heap, fields),
     }
 }
 
