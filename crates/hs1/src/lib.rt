@@ -156,8 +156,8 @@ fn mask_text<S: Stream>(
     requires { ⌜ length (now text) ≤ 65536 ⌝ }
     ensures { λ _. ⌜ ((key : List ℕ) → Derived (S·Stream .meaning (now (stream .entry))) strength key (now (keys .entry)) → now (text .exit) ≡ under (S·Stream .meaning (now (stream .entry))) strength key (now (nonce .entry)) (now (iv .entry)) (now (text .entry))) ⌝ }
 {
-    let digest = hash(strength, &keys.hash, iv);
-    let seed = xor_32(&digest, &keys.ks);
+    let hashed = hash(strength, &keys.hash, iv);
+    let seed = xor_32(&hashed, &keys.ks);
     mask(stream, &seed, nonce, TEXT_PLACE, text);
 }
 
@@ -325,8 +325,8 @@ pub fn seal<S: Stream>(
     }
     let part = &mut out[0..text.len()];
     part.copy_from_slice(text);
-    let iv = seal_buffer(stream, strength, key, nonce, header, part);
-    siv_out[0..len].copy_from_slice(&iv[0..len]);
+    let made = seal_buffer(stream, strength, key, nonce, header, part);
+    siv_out[0..len].copy_from_slice(&made[0..len]);
     Ok(())
 }
 

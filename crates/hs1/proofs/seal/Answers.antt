@@ -31,6 +31,6 @@ returns g c =
     let copied = c .copy-from-slice .ensures .after in
     record {
       answer-is = ap answer (sym z);
-      siv-is = granted-put _ (siv f s key nonce header text) _ siv-was _ z (c .copy-from-slice-2 .ensures .after ∙ ap (λ x. take x (c .seal-buffer-iv .result)) n ∙ c .seal-buffer-iv .ensures .siv ∙ ap (siv f s key nonce header) copied) (n ∙ sym (length-siv f s key nonce header text));
-      out-is = granted-put _ (ciphertext f s key nonce header text) _ was (length text) z (c .seal-buffer-iv .ensures .text ∙ ap (ciphertext f s key nonce header) copied) (sub-zero (length text) ∙ sym (length-ciphertext f s key nonce header text));
+      siv-is = granted-put _ (siv f s key nonce header text) _ siv-was _ z (c .copy-from-slice-2 .ensures .after ∙ ap (λ x. take x (c .seal-buffer-made .result)) n ∙ c .seal-buffer-made .ensures .siv ∙ ap (siv f s key nonce header) copied) (n ∙ sym (length-siv f s key nonce header text));
+      out-is = granted-put _ (ciphertext f s key nonce header text) _ was (length text) z (c .seal-buffer-made .ensures .text ∙ ap (ciphertext f s key nonce header) copied) (sub-zero (length text) ∙ sym (length-ciphertext f s key nonce header text));
     }
