@@ -7,7 +7,7 @@ use lib.Lanes.{zip2}
 use lib.Bits.{bitXor, bitOr}
 
 -- a + b modulo 2^32
-unfoldable pub add32 : (a b : ℕ) → ℕ
+abbrev pub add32 : (a b : ℕ) → ℕ
 add32 a b = (a + b) % 2 ^ 32
 
 -- x <<< n, a 32-bit word rotated left by n bits

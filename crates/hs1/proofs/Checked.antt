@@ -19,7 +19,7 @@ use Rattle.refusal.specs.declared.Refusal.the-variants.{WrongSiv, SivLength, Sh
 use Rattle.hash.specs.declared.Strength.{Strength}
 use Rattle.hash.specs.Strength.{siv-length}
 use Rattle.stream.specs.Stream.{StreamOf}
-use Rattle.hs1.specs.Seal.{siv-of, ciphertext-of}
+use Rattle.hs1.specs.Seal.{siv, ciphertext}
 use Rattle.hs1.specs.Checks.{refuse-if, input-checks, seal-checks, siv-checks, open-checks, or-else, wrong-siv, answer, put, cleared}
 use Rattle.hs1.specs.Calls.{Seals, Opens, Opened-there}
 
@@ -56,8 +56,8 @@ pub refused-seals : (o : Option Refusal) (f : StreamOf) (s : Strength) (key nonc
 refused-seals o f s key nonce header text siv-was was r why e h =
     record {
       answer-is = h ∙ ap answer (sym e);
-      siv-is = refused-put o why (siv-of f s key nonce header text) siv-was e;
-      out-is = refused-put o why (ciphertext-of f s key nonce header text) was e;
+      siv-is = refused-put o why (siv f s key nonce header text) siv-was e;
+      out-is = refused-put o why (ciphertext f s key nonce header text) was e;
     }
 
 pub refused-opens : (o : Option Refusal) (text : Option (List ℕ)) (n : ℕ) (was : List ℕ) (r : Result (Unit {0}) Refusal) (why : Refusal) → o ≡ Some why → r ≡ Err why → Opens o text n was was r

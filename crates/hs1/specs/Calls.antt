@@ -9,15 +9,15 @@ use Rattle.std.specs.declared.result.Result.{Result}
 use Rattle.refusal.specs.declared.Refusal.{Refusal}
 use Rattle.hash.specs.declared.Strength.{Strength}
 use Rattle.stream.specs.Stream.{StreamOf}
-use Rattle.hs1.specs.Seal.{siv-of, ciphertext-of}
+use Rattle.hs1.specs.Seal.{siv, ciphertext}
 use Rattle.hs1.specs.Checks.{or-else, wrong-siv, answer, put, cleared}
 
 -- Sealing, whose checks say `checks`: the answer, the buffer for the SIV, and the buffer for the ciphertext, before and
 -- after.
 pub record Seals (checks : Option Refusal) (f : StreamOf) (s : Strength) (key nonce header text siv-was siv-now was after : List ℕ) (r : Result (Unit {0}) Refusal) : Type 0 where
   pub answer-is : r ≡ answer checks
-  pub siv-is : siv-now ≡ put checks (siv-of f s key nonce header text) siv-was
-  pub out-is : after ≡ put checks (ciphertext-of f s key nonce header text) was
+  pub siv-is : siv-now ≡ put checks (siv f s key nonce header text) siv-was
+  pub out-is : after ≡ put checks (ciphertext f s key nonce header text) was
 
 -- Opening n bytes, whose checks say `checks` and which gives `text`: the answer, and the buffer for the text. A wrong
 -- SIV is found last, and leaves zeros where the text would stand.

@@ -16,7 +16,7 @@ ghost use lib.ListN.{length, take, replicate};
 ghost use Rattle.stream.specs.Stream.{places, masked};
 ghost use Rattle.hash.specs.Strength.{hashes, siv-length, subkey-bytes};
 ghost use Rattle.hs1.specs.Hs1.{subkey-seed, subkey-nonce, subkeys};
-ghost use Rattle.hs1.specs.Seal.{siv-of, under, ciphertext-of, same, opened};
+ghost use Rattle.hs1.specs.Seal.{siv, under, ciphertext, same, opened};
 ghost use Rattle.hs1.specs.Checks.{input-checks, seal-checks, siv-checks, open-checks, refuse-if, answer};
 ghost use Rattle.refusal.specs.declared.Refusal.the-variants.{WrongSiv};
 ghost use Rattle.hs1.specs.Calls.{Seals, Opens, Opened-there};
@@ -135,7 +135,7 @@ fn siv_bytes<S: Stream>(
     header: &[u8],
     text: &[u8],
 ) -> [u8; 32]
-    ensures { λ r. ⌜ ((key : List ℕ) → Derived (S·Stream .meaning (now (stream .entry))) strength key (now (keys .entry)) → take (siv-length strength) r ≡ siv-of (S·Stream .meaning (now (stream .entry))) strength key (now (nonce .entry)) (now (header .entry)) (now (text .entry))) ⌝ }
+    ensures { λ r. ⌜ ((key : List ℕ) → Derived (S·Stream .meaning (now (stream .entry))) strength key (now (keys .entry)) → take (siv-length strength) r ≡ siv (S·Stream .meaning (now (stream .entry))) strength key (now (nonce .entry)) (now (header .entry)) (now (text .entry))) ⌝ }
 {
     let digest = hash_message(strength, &keys.hash, header, text);
     let seed = xor_32(&digest, &keys.ks);
@@ -150,13 +150,13 @@ fn mask_text<S: Stream>(
     strength: Strength,
     keys: &Subkeys,
     nonce: &[u8; 12],
-    siv: &[u8],
+    iv: &[u8],
     text: &mut [u8],
 )
     requires { ⌜ length (now text) ≤ 65536 ⌝ }
-    ensures { λ _. ⌜ ((key : List ℕ) → Derived (S·Stream .meaning (now (stream .entry))) strength key (now (keys .entry)) → now (text .exit) ≡ under (S·Stream .meaning (now (stream .entry))) strength key (now (nonce .entry)) (now (siv .entry)) (now (text .entry))) ⌝ }
+    ensures { λ _. ⌜ ((key : List ℕ) → Derived (S·Stream .meaning (now (stream .entry))) strength key (now (keys .entry)) → now (text .exit) ≡ under (S·Stream .meaning (now (stream .entry))) strength key (now (nonce .entry)) (now (iv .entry)) (now (text .entry))) ⌝ }
 {
-    let hashed = hash(strength, &keys.hash, siv);
+    let hashed = hash(strength, &keys.hash, iv);
     let seed = xor_32(&hashed, &keys.ks);
     mask(stream, &seed, nonce, TEXT_PLACE, text);
 }
@@ -227,21 +227,21 @@ fn seal_buffer<S: Stream>(
     text: &mut [u8],
 ) -> [u8; 32]
     requires { ⌜ input-checks (length (now key)) (length (now nonce)) (length (now header)) (length (now text)) ≡ None ⌝ }
-    ensures siv { λ r. ⌜ take (siv-length strength) r ≡ siv-of (S·Stream .meaning (now (stream .entry))) strength (now (key .entry)) (now (nonce .entry)) (now (header .entry)) (now (text .entry)) ⌝ }
-    ensures text { λ _. ⌜ now (text .exit) ≡ ciphertext-of (S·Stream .meaning (now (stream .entry))) strength (now (key .entry)) (now (nonce .entry)) (now (header .entry)) (now (text .entry)) ⌝ }
+    ensures siv { λ r. ⌜ take (siv-length strength) r ≡ siv (S·Stream .meaning (now (stream .entry))) strength (now (key .entry)) (now (nonce .entry)) (now (header .entry)) (now (text .entry)) ⌝ }
+    ensures text { λ _. ⌜ now (text .exit) ≡ ciphertext (S·Stream .meaning (now (stream .entry))) strength (now (key .entry)) (now (nonce .entry)) (now (header .entry)) (now (text .entry)) ⌝ }
 {
     let keys = derive_keys(stream, strength, key);
     let nonce = nonce_12(nonce);
-    let siv = siv_bytes(stream, strength, &keys, &nonce, header, text);
+    let iv = siv_bytes(stream, strength, &keys, &nonce, header, text);
     mask_text(
         stream,
         strength,
         &keys,
         &nonce,
-        &siv[0..strength.siv_len()],
+        &iv[0..strength.siv_len()],
         text,
     );
-    siv
+    iv
 }
 
 // Opens a ciphertext where it stands, and says whether it opened; else zeros
@@ -252,17 +252,17 @@ fn open_buffer<S: Stream>(
     key: &[u8],
     nonce: &[u8],
     header: &[u8],
-    siv: &[u8],
+    iv: &[u8],
     buf: &mut [u8],
 ) -> bool
-    requires { ⌜ siv-checks strength (length (now key)) (length (now nonce)) (length (now header)) (length (now buf)) (length (now siv)) ≡ None ⌝ }
-    ensures { λ r. ⌜ Opened-there (opened (S·Stream .meaning (now (stream .entry))) strength (now (key .entry)) (now (nonce .entry)) (now (header .entry)) (now (siv .entry)) (now (buf .entry))) (length (now (buf .entry))) (now (buf .exit)) r ⌝ }
+    requires { ⌜ siv-checks strength (length (now key)) (length (now nonce)) (length (now header)) (length (now buf)) (length (now iv)) ≡ None ⌝ }
+    ensures { λ r. ⌜ Opened-there (opened (S·Stream .meaning (now (stream .entry))) strength (now (key .entry)) (now (nonce .entry)) (now (header .entry)) (now (iv .entry)) (now (buf .entry))) (length (now (buf .entry))) (now (buf .exit)) r ⌝ }
 {
     let keys = derive_keys(stream, strength, key);
     let nonce = nonce_12(nonce);
-    mask_text(stream, strength, &keys, &nonce, siv, buf);
+    mask_text(stream, strength, &keys, &nonce, iv, buf);
     let again = siv_bytes(stream, strength, &keys, &nonce, header, buf);
-    let good = same_bytes(siv, &again[0..strength.siv_len()]);
+    let good = same_bytes(iv, &again[0..strength.siv_len()]);
     keep_if(good, buf);
     good
 }
@@ -288,9 +288,9 @@ pub fn seal_in_place<S: Stream>(
     ensures { λ r. ⌜ Seals (input-checks (length (now (key .entry))) (length (now (nonce .entry))) (length (now (header .entry))) (length (now (text .entry)))) (S·Stream .meaning (now (stream .entry))) strength (now (key .entry)) (now (nonce .entry)) (now (header .entry)) (now (text .entry)) (now («siv_out» .entry)) (now («siv_out» .exit)) (now (text .entry)) (now (text .exit)) r ⌝ }
 {
     check_inputs(key, nonce, header, text)?;
-    let siv = seal_buffer(stream, strength, key, nonce, header, text);
+    let iv = seal_buffer(stream, strength, key, nonce, header, text);
     let len = strength.siv_len();
-    siv_out[0..len].copy_from_slice(&siv[0..len]);
+    siv_out[0..len].copy_from_slice(&iv[0..len]);
     Ok(())
 }
 
@@ -302,16 +302,16 @@ pub fn open_in_place<S: Stream>(
     key: &[u8],
     nonce: &[u8],
     header: &[u8],
-    siv: &[u8],
+    iv: &[u8],
     buf: &mut [u8],
 ) -> Result<(), Refusal>
-    ensures { λ r. ⌜ Opens (siv-checks strength (length (now (key .entry))) (length (now (nonce .entry))) (length (now (header .entry))) (length (now (buf .entry))) (length (now (siv .entry)))) (opened (S·Stream .meaning (now (stream .entry))) strength (now (key .entry)) (now (nonce .entry)) (now (header .entry)) (now (siv .entry)) (now (buf .entry))) (length (now (buf .entry))) (now (buf .entry)) (now (buf .exit)) r ⌝ }
+    ensures { λ r. ⌜ Opens (siv-checks strength (length (now (key .entry))) (length (now (nonce .entry))) (length (now (header .entry))) (length (now (buf .entry))) (length (now (iv .entry)))) (opened (S·Stream .meaning (now (stream .entry))) strength (now (key .entry)) (now (nonce .entry)) (now (header .entry)) (now (iv .entry)) (now (buf .entry))) (length (now (buf .entry))) (now (buf .entry)) (now (buf .exit)) r ⌝ }
 {
     check_inputs(key, nonce, header, buf)?;
-    if siv.len() != strength.siv_len() {
+    if iv.len() != strength.siv_len() {
         return Err(Refusal::SivLength);
     }
-    let good = open_buffer(stream, strength, key, nonce, header, siv, buf);
+    let good = open_buffer(stream, strength, key, nonce, header, iv, buf);
     verdict(good)
 }
 
@@ -349,22 +349,22 @@ pub fn open<S: Stream>(
     key: &[u8],
     nonce: &[u8],
     header: &[u8],
-    siv: &[u8],
-    ciphertext: &[u8],
+    iv: &[u8],
+    cipher: &[u8],
     out: &mut [u8],
 ) -> Result<(), Refusal>
-    ensures { λ r. ⌜ Opens (open-checks strength (length (now (key .entry))) (length (now (nonce .entry))) (length (now (header .entry))) (length (now (ciphertext .entry))) (length (now (siv .entry))) (length (now (out .entry)))) (opened (S·Stream .meaning (now (stream .entry))) strength (now (key .entry)) (now (nonce .entry)) (now (header .entry)) (now (siv .entry)) (now (ciphertext .entry))) (length (now (ciphertext .entry))) (now (out .entry)) (now (out .exit)) r ⌝ }
+    ensures { λ r. ⌜ Opens (open-checks strength (length (now (key .entry))) (length (now (nonce .entry))) (length (now (header .entry))) (length (now (cipher .entry))) (length (now (iv .entry))) (length (now (out .entry)))) (opened (S·Stream .meaning (now (stream .entry))) strength (now (key .entry)) (now (nonce .entry)) (now (header .entry)) (now (iv .entry)) (now (cipher .entry))) (length (now (cipher .entry))) (now (out .entry)) (now (out .exit)) r ⌝ }
 {
-    check_inputs(key, nonce, header, ciphertext)?;
-    if siv.len() != strength.siv_len() {
+    check_inputs(key, nonce, header, cipher)?;
+    if iv.len() != strength.siv_len() {
         return Err(Refusal::SivLength);
     }
-    if out.len() < ciphertext.len() {
+    if out.len() < cipher.len() {
         return Err(Refusal::ShortOutput);
     }
-    let part = &mut out[0..ciphertext.len()];
-    part.copy_from_slice(ciphertext);
-    let good = open_buffer(stream, strength, key, nonce, header, siv, part);
+    let part = &mut out[0..cipher.len()];
+    part.copy_from_slice(cipher);
+    let good = open_buffer(stream, strength, key, nonce, header, iv, part);
     verdict(good)
 }
 

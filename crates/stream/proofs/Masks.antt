@@ -10,6 +10,7 @@ use lib.Bits.{bitXor, xor-assoc, xor-self, xor-zero-r}
 use lib.Seq.{take-add}
 use borrow.Rule.Slice.PartMut.{putMid}
 use Rattle.std.proofs.shelf.Lists.{take-all, take-at, drop-at, drop-all, drop-drop, length-take-le, length-drop, length-append, take-append-drop, ext-getD}
+use Rattle.std.proofs.shelf.Lanes.{getD-zip2, length-zip2}
 use Rattle.stream.specs.Stream.{run, masked}
 
 module _ (f : ℕ → ℕ) where
@@ -110,3 +111,9 @@ run-block blocks i l =
     let q : i ≡ (64 * i + k) / 64 = omega arith in
     let r : k ≡ (64 * i + k) % 64 = omega arith in
     ap (λ j. getD (blocks j) k 0) q ∙ ap (λ j. getD (blocks ((64 * i + k) / 64)) j 0) r ∙ sym (getD-run f (64 * i) 64 k 0 (omega arith)))
+
+-- a list that has been made place by place from two others
+pub zip-all : (f : ℕ → ℕ → ℕ) (s e m : List ℕ) → length s ≡ length e → length e ≡ length m → ((k : ℕ) → k < length e → getD s k 0 ≡ f (getD e k 0) (getD m k 0)) → s ≡ zip2 f e m
+zip-all f s e m ls lm at =
+    ext-getD 0 s (zip2 f e m) (ls ∙ sym (length-zip2 f e m lm))
+    (λ k h. at k (omega arith) ∙ sym (getD-zip2 f e m k 0 0 0 (omega arith) (omega arith)))

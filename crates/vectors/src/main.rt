@@ -5,12 +5,23 @@
 //!
 //! - `# TITLE` begins a group of cases;
 //! - `STREAM seed nonce place bytes`: those bytes stand there in the stream;
-//! - `xor STREAM seed nonce place text masked`: the text is masked to that.
+//! - `xor STREAM seed nonce place text masked`: the text is masked to that;
+//! - `block aes256 key text encrypted`: AES-256 encrypts the block to that;
+//! - `bare suite key nonce header text siv ciphertext`: sealing gives that SIV
+//!   and ciphertext, and opening gives the text back;
+//! - `seal suite key nonce header text siv siv_room out_room refused siv_after
+//!   out_after` and `open ..` alike: the call is made with buffers of those
+//!   sizes, filled with aa, answers that number (0 for done) and leaves those
+//!   bytes.
 //!
 //! A group's line on standard output says how many of its cases agree.
 
+mod bare;
 mod hex;
 
+use aes::Aes256;
+use aes::Aes256Stream;
+use aes::encrypt_block;
 use chacha::ChaCha;
 use chacha::ChaChaStream;
 use hex::decode;
@@ -49,54 +60,136 @@ fn chacha(name: &str) -> Result<ChaCha, AnyError> {
     }
 }
 
-fn seed_of(bytes: &[u8]) -> Result<[u8; 32], AnyError> {
-    if bytes.len() != 32 {
-        return Err("a seed has 32 bytes".into());
+// Bytes as an array, where there are as many as it has.
+fn array<const N: usize>(bytes: &[u8]) -> Result<[u8; N], AnyError> {
+    if bytes.len() != N {
+        return Err("a field of the wrong length".into());
     }
-    let mut seed = [0; 32];
-    seed.copy_from_slice(bytes);
-    Ok(seed)
+    let mut out = [0; N];
+    out.copy_from_slice(bytes);
+    Ok(out)
 }
 
-fn nonce_of(bytes: &[u8]) -> Result<[u8; 12], AnyError> {
-    if bytes.len() != 12 {
-        return Err("a nonce has 12 bytes".into());
-    }
-    let mut nonce = [0; 12];
-    nonce.copy_from_slice(bytes);
-    Ok(nonce)
+// A case of a stream: what is masked, with what, and what it should become.
+#[derive(Drop)]
+struct Masking {
+    seed: [u8; 32],
+    nonce: [u8; 12],
+    place: u32,
+    text: Vec<u8>,
+    expected: Vec<u8>,
 }
 
-// Whether a stream masks the text to what is expected.
-fn masks(
+impl Masking {
+    fn agrees<S: Stream>(mut self, stream: &S) -> bool {
+        let done = stream.xor(&self.seed, &self.nonce, self.place, &mut self.text);
+        done.is_ok() && self.text.as_slice() == self.expected.as_slice()
+    }
+}
+
+// Whether the stream of that name masks as it should.
+fn masks(name: &str, case: Masking) -> Result<bool, AnyError> {
+    match name {
+        "aes256" => Ok(case.agrees(&Aes256)),
+        _ => Ok(case.agrees(&chacha(name)?)),
+    }
+}
+
+// The case of a stream that a line's fields spell, but for the text.
+fn make_masking(
     heap: Global,
-    name: &str,
     seed: &str,
     nonce: &str,
     place: &str,
-    mut text: Vec<u8>,
+    text: Vec<u8>,
     expected: &str,
-) -> Result<bool, AnyError> {
-    let seed = seed_of(&decode(heap, seed)?)?;
-    let nonce = nonce_of(&decode(heap, nonce)?)?;
-    let expected = decode(heap, expected)?;
-    let done = chacha(name)?.xor(&seed, &nonce, place.parse::<u32>()?, &mut text);
-    Ok(done.is_ok() && text.as_slice() == expected.as_slice())
+) -> Result<Masking, AnyError> {
+    Ok(Masking {
+        seed: array(&decode(heap, seed)?)?,
+        nonce: array(&decode(heap, nonce)?)?,
+        place: place.parse::<u32>()?,
+        text,
+        expected: decode(heap, expected)?,
+    })
+}
+
+// Whether a case of a stream agrees.
+fn stream_agrees(heap: Global, fields: &[&str]) -> Result<bool, AnyError> {
+    match fields {
+        ["xor", name, seed, nonce, place, text, masked] => {
+            let text = decode(heap, text)?;
+            masks(name, make_masking(heap, seed, nonce, place, text, masked)?)
+        }
+        ["block", "aes256", key, text, encrypted] => {
+            let key = array(&decode(heap, key)?)?;
+            let block = encrypt_block(&key, &array(&decode(heap, text)?)?);
+            Ok(&block[..] == decode(heap, encrypted)?.as_slice())
+        }
+        [name, seed, nonce, place, bytes] => {
+            let zeros = vec![in heap; 0u8; decode(heap, bytes)?.len()]?;
+            masks(name, make_masking(heap, seed, nonce, place, zeros, bytes)?)
+        }
+        _ => Err("a line that is no case".into()),
+    }
+}
+
+// Whether sealing with those arguments does what it should.
+fn seal_agrees(heap: Global, fields: &[&str]) -> Result<bool, AnyError> {
+    match fields {
+        ["seal", suite, key, nonce, header, text, _, a, b, c, d, e] => {
+            bare::seals(heap, &[suite, key, nonce, header, text], &[a, b, c, d, e])
+        }
+        _ => Err("a line that is no case of sealing".into()),
+    }
+}
+
+// Whether opening with those arguments does what it should.
+fn open_agrees(heap: Global, fields: &[&str]) -> Result<bool, AnyError> {
+    match fields {
+        [
+            "open",
+            suite,
+            key,
+            nonce,
+            header,
+            cipher,
+            siv,
+            a,
+            b,
+            c,
+            d,
+            e,
+        ] => {
+            bare::opens(
+                heap,
+                &[suite, key, nonce, header, cipher],
+                siv,
+                &[a, b, c, d, e],
+            )
+        }
+        _ => Err("a line that is no case of opening".into()),
+    }
+}
+
+// Whether sealing and opening again does what it should.
+fn bare_agrees(heap: Global, fields: &[&str]) -> Result<bool, AnyError> {
+    match fields {
+        ["bare", suite, key, nonce, header, text, siv, cipher] => {
+            bare::both_ways(heap, &[suite, key, nonce, header, text, siv, cipher])
+        }
+        _ => Err("a line that is no case of sealing and opening".into()),
+    }
 }
 
 // Whether a case agrees.
 fn agrees(heap: Global, line: &str) -> Result<bool, AnyError> {
     let fields: Vec<&str> = line.split(' ').collect(heap)?;
-    match fields.as_slice() {
-        ["xor", name, seed, nonce, place, text, masked] => {
-            let text = decode(heap, text)?;
-            masks(heap, name, seed, nonce, place, text, masked)
-        }
-        [name, seed, nonce, place, bytes] => {
-            let zeros = vec![in heap; 0u8; decode(heap, bytes)?.len()]?;
-            masks(heap, name, seed, nonce, place, zeros, bytes)
-        }
-        _ => Err("a line that is no case".into()),
+    let fields = fields.as_slice();
+    match fields {
+        ["seal", ..] => seal_agrees(heap, fields),
+        ["open", ..] => open_agrees(heap, fields),
+        ["bare", ..] => bare_agrees(heap, fields),
+        _ => stream_agrees(heap, fields),
     }
 }
 

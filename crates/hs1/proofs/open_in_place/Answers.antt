@@ -19,7 +19,7 @@ returns g c =
     let key = c .args .key .now in
     let nonce = c .args .nonce .now in
     let header = c .args .header .now in
-    let iv = c .args .siv .now in
+    let iv = c .args .iv .now in
     let cipher = c .args .buf .now in
     let z = passed-siv s (length key) (length nonce) (length header) (length cipher) (length iv) _ (c .in-Continue-check-inputs .ensures tt) (c .siv-len .ensures) (omega arith) in
     granted-opens _ _ (length cipher) cipher _ _ _ _ z (c .open-buffer-good .ensures) (whole-put _ _ cipher _ z (length-cleared f s key nonce header iv cipher)) (c .verdict .ensures)

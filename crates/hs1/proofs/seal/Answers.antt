@@ -4,7 +4,7 @@ use native.Mathlib.Omega.{arith}
 use lib.ListN.{length, take}
 use Rattle.std.specs.declared.result.Result.the-variants.{Ok, Err}
 use Rattle.std.proofs.shelf.Results.{err-from-errBy}
-use Rattle.hs1.specs.Seal.{siv-of, ciphertext-of}
+use Rattle.hs1.specs.Seal.{siv, ciphertext}
 use Rattle.hs1.specs.Checks.{answer}
 use Rattle.hs1.proofs.Checked.{some-from-err, refused-seals, or-first, passed-seal, granted-put}
 use Rattle.hs1.proofs.Sealing.{length-siv, length-ciphertext}
@@ -31,6 +31,6 @@ returns g c =
     let copied = c .copy-from-slice .ensures .after in
     record {
       answer-is = ap answer (sym z);
-      siv-is = granted-put _ (siv-of f s key nonce header text) _ siv-was _ z (c .copy-from-slice-2 .ensures .after ∙ ap (λ x. take x (c .seal-buffer-made .result)) n ∙ c .seal-buffer-made .ensures .siv ∙ ap (siv-of f s key nonce header) copied) (n ∙ sym (length-siv f s key nonce header text));
-      out-is = granted-put _ (ciphertext-of f s key nonce header text) _ was (length text) z (c .seal-buffer-made .ensures .text ∙ ap (ciphertext-of f s key nonce header) copied) (sub-zero (length text) ∙ sym (length-ciphertext f s key nonce header text));
+      siv-is = granted-put _ (siv f s key nonce header text) _ siv-was _ z (c .copy-from-slice-2 .ensures .after ∙ ap (λ x. take x (c .seal-buffer-made .result)) n ∙ c .seal-buffer-made .ensures .siv ∙ ap (siv f s key nonce header) copied) (n ∙ sym (length-siv f s key nonce header text));
+      out-is = granted-put _ (ciphertext f s key nonce header text) _ was (length text) z (c .seal-buffer-made .ensures .text ∙ ap (ciphertext f s key nonce header) copied) (sub-zero (length text) ∙ sym (length-ciphertext f s key nonce header text));
     }

@@ -10,7 +10,7 @@ returns g c =
     let header = c .args .header .now in
     let text = c .args .text .now in
     let d = c .derive-keys-keys .ensures in
-    let iv = c .siv-bytes-siv .ensures key d in
+    let iv = c .siv-bytes-iv .ensures key d in
     record {
       siv = sealed-siv f s key nonce _ header text _ (c .nonce-12-nonce .ensures) iv;
       text = sealed-text f s key nonce _ header text _ _ _ (c .nonce-12-nonce .ensures) iv (c .siv-len .ensures) (c .mask-text .ensures key d);

@@ -3,7 +3,7 @@ use native.Mathlib.Nat.{sub-zero}
 use lib.ListN.{length, take}
 use Rattle.std.specs.declared.result.Result.the-variants.{Ok, Err}
 use Rattle.std.proofs.shelf.Results.{err-from-errBy}
-use Rattle.hs1.specs.Seal.{siv-of}
+use Rattle.hs1.specs.Seal.{siv}
 use Rattle.hs1.proofs.Checked.{none-from-ok, some-from-err, refused-seals, granted-put, whole-put}
 use Rattle.hs1.proofs.Sealing.{length-siv, length-ciphertext}
 use Rattle.hs1.proofs.seal_in_place.Needs as need
@@ -26,6 +26,6 @@ returns g c =
     let n = sub-zero (c .siv-len-len .result) ∙ c .siv-len-len .ensures in
     record {
       answer-is = e;
-      siv-is = granted-put _ (siv-of f s key nonce header text) _ _ _ z (c .copy-from-slice .ensures .after ∙ ap (λ x. take x (c .seal-buffer-siv .result)) n ∙ c .seal-buffer-siv .ensures .siv) (n ∙ sym (length-siv f s key nonce header text));
-      out-is = whole-put _ _ text _ z (length-ciphertext f s key nonce header text) (c .seal-buffer-siv .ensures .text);
+      siv-is = granted-put _ (siv f s key nonce header text) _ _ _ z (c .copy-from-slice .ensures .after ∙ ap (λ x. take x (c .seal-buffer-iv .result)) n ∙ c .seal-buffer-iv .ensures .siv) (n ∙ sym (length-siv f s key nonce header text));
+      out-is = whole-put _ _ text _ z (length-ciphertext f s key nonce header text) (c .seal-buffer-iv .ensures .text);
     }

@@ -1,0 +1,12 @@
+pub mod Carry
+pub mod Tokens
+pub mod Agree
+pub mod Numbers
+pub mod Steps
+pub mod Columns
+pub mod Lines
+pub mod Shapes
+pub mod Parts
+pub mod Figures
+pub mod Signs
+pub mod Fronts

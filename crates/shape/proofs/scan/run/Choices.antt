@@ -1,0 +1,10 @@
+use Prim.Native.Nat.{_-_, _≤_}
+use lib.ListN.{length, take}
+use Rattle.std.specs.shelf.Lists.{All}
+use Rattle.shape.proofs.scan.run.Given as given
+
+abbrev pub Inv-loop-n : given.InvT-loop-n
+Inv-loop-n l = (l .n ≤ length (l .s)) × (l .n ≤ l .most) × All (λ b. (l .low ≤ b) × (b ≤ l .high)) (take (l .n) (l .s))
+
+abbrev pub μ-loop-n : given.MeasureT-loop-n
+μ-loop-n l = l .most - l .n
