@@ -43,11 +43,12 @@ impl Roll {
         ensures drawn { λ r. ⌜ Drawn (now (self .entry) .last) (now (self .exit) .last) (serial-of r) ⌝ }
         ensures law { λ _. ⌜ Never-repeats ⌝ }
     {
-        if self.last == u32::MAX {
+        let last = &mut self.last;
+        if *last == u32::MAX {
             return Err(Refusal::RollUsedUp);
         }
-        self.last += 1;
-        Ok(Ticket { serial: self.last })
+        *last += 1;
+        Ok(Ticket { serial: *last })
     }
 
     // Draws and spends two tickets: their serials, which are never the same.
