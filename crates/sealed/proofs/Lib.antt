@@ -1,0 +1,5 @@
+pub mod Hexes
+pub mod Values
+pub mod Pieces
+pub mod Scans
+pub mod Fields

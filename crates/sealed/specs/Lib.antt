@@ -1,0 +1,5 @@
+pub mod Limits
+pub mod Hex
+pub mod Line
+pub mod Frame
+pub mod Sheet

@@ -1,0 +1,19 @@
+//! The sealed line: what it is, reading it, and writing it.
+//!
+//! `(sealed (slot 3) (kind 1) (serial 88) (siv H) (text H))` and a line end;
+//! H is bytes in hexadecimal. `docs/SHEETS.md` draws its parts out. Nothing
+//! here needs a key: a line that is read becomes an unchecked sheet, and only
+//! opening, which belongs to other crates, gives items.
+
+mod hex;
+mod unchecked;
+
+pub use unchecked::Unchecked;
+
+// slots are numbered from 0
+pub const LAST_SLOT: u32 = 7;
+pub const LAST_KIND: u32 = 9;
+// bytes of the longest SIV
+pub const LONGEST_SIV: usize = 32;
+// bytes of the longest text
+pub const LONGEST_TEXT: usize = 16_384;
