@@ -3,3 +3,4 @@ pub mod Values
 pub mod Pieces
 pub mod Scans
 pub mod Fields
+pub mod Frames

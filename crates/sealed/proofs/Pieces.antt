@@ -153,6 +153,10 @@ abbrev pub spelling : Parts → List ℕ → List ℕ
 spelling p rest =
     codes "(sealed (slot " ++ (figures (p .slot) ++ (codes ") (kind " ++ (figures (p .kind) ++ (codes ") (serial " ++ (figures (p .serial) ++ (codes ") (siv " ++ (hex-of (p .siv) ++ (codes ") (text " ++ (hex-of (p .text) ++ (codes "))" ++ rest))))))))))
 
+pub header-more : (a b c : ℕ) (rest : List ℕ) → header-of a b c ++ rest ≡ codes "(sealed (slot " ++ (figures a ++ (codes ") (kind " ++ (figures b ++ (codes ") (serial " ++ (figures c ++ (codes ") " ++ rest))))))
+unfolding header-of
+header-more a b c rest = simp append-assoc
+
 pub spelling-more : (p : Parts) (rest : List ℕ) → spelling p [] ++ rest ≡ spelling p rest
 spelling-more p rest = simp append-assoc
 
