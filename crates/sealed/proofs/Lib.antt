@@ -4,3 +4,4 @@ pub mod Pieces
 pub mod Scans
 pub mod Fields
 pub mod Frames
+pub mod Overs

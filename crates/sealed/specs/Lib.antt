@@ -3,3 +3,5 @@ pub mod Hex
 pub mod Line
 pub mod Frame
 pub mod Sheet
+pub mod Writes
+pub mod Opening

@@ -8,6 +8,10 @@
 mod hex;
 mod unchecked;
 
+pub use hex::write_hex;
+pub use unchecked::Ciphertext;
+pub use unchecked::SealedParts;
+pub use unchecked::Siv;
 pub use unchecked::Unchecked;
 
 // slots are numbered from 0
