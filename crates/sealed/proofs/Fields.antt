@@ -23,6 +23,9 @@ bound : (f : Field) (n : ℕ) → allowed f n ≡ true → n ≤ most-of f
 bound Siv n h = grind (arith, tells)
 bound Text n h = grind (arith, tells)
 
+pub siv-within : (n : ℕ) → allowed Siv n ≡ true → n ≤ most-of Siv
+siv-within n h = bound Siv n h
+
 module _ (f : Field) (s : List ℕ) (n : ℕ) (run : Runs HexDigit (2 * most-of f) s n) where
   pub field-token : n % 2 ≡ 0 → allowed f (n / 2) ≡ true → Token (HexOf (allowed f)) s (Ok n)
   field-token even ok = hex-token (allowed f) (most-of f) (top f) (bound f) s n run (n / 2) (omega arith) ok

@@ -7,6 +7,7 @@
 
 mod hex;
 mod unchecked;
+mod writing;
 
 pub use hex::write_hex;
 pub use unchecked::Ciphertext;

@@ -4,15 +4,30 @@ use super::Ciphertext;
 use super::SealedParts;
 use super::Siv;
 use super::Unchecked;
+use crate::LONGEST_SIV;
 use crate::hex::put_bytes;
 use refusal::Refusal;
 ghost use mathlib.Core.Path.{_≡_};
 ghost use mathlib.Core.List.{List};
-ghost use Prim.Native.Nat.{ℕ};
+ghost use Prim.Native.Nat.{ℕ, _≤_};
 ghost use lib.ListN.{length};
-ghost use Rattle.sealed.specs.Opening.{ApartFrom, cipher-of};
+ghost use Rattle.sealed.specs.Opening.{ApartFrom, HoldsSiv, cipher-of};
+ghost use Rattle.sealed.specs.Hex.{bytes-of};
+ghost use Rattle.sealed.specs.Limits.{longest-siv};
 ghost use Rattle.sealed.specs.Sheet.{ReadFrom};
 ghost use Rattle.sealed.specs.Writes.{Decodes};
+
+// The SIV that `digits` write; none is longer than its array.
+fn siv_of(digits: &[u8]) -> Siv
+    ensures { λ r. ⌜ (length (bytes-of (now (digits .entry))) ≤ longest-siv → HoldsSiv (bytes-of (now (digits .entry))) r) ⌝ }
+{
+    let mut bytes = [0u8; LONGEST_SIV];
+    if digits.len() / 2 > LONGEST_SIV {
+        return Siv { bytes, len: 0 };
+    }
+    let len = put_bytes(digits, &mut bytes);
+    Siv { bytes, len }
+}
 
 impl<'a> Unchecked<'a> {
     pub fn slot(&self) -> u8
@@ -45,12 +60,9 @@ impl<'a> Unchecked<'a> {
             siv,
             text,
         } = self;
-        let digits = if siv.len() > 64 { &siv[0..64] } else { siv };
-        let mut bytes = [0u8; 32];
-        let len = put_bytes(digits, &mut bytes);
         SealedParts {
             header,
-            siv: Siv { bytes, len },
+            siv: siv_of(siv),
             text: Ciphertext { digits: text },
         }
     }

@@ -1,0 +1,84 @@
+//! Writing the sealed line and its header.
+
+use crate::LAST_KIND;
+use crate::LAST_SLOT;
+use crate::LONGEST_TEXT;
+use crate::hex::put_hex;
+use refusal::Refusal;
+ghost use mathlib.Core.Path.{_≡_};
+ghost use Prim.Native.Nat.{ℕ, _+_, _^_, _<_, _≤_};
+ghost use lib.ListN.{length};
+ghost use Rattle.shape.specs.Decimal.{figures};
+ghost use Rattle.sealed.specs.Line.{header-of, sealed-line, LongestHeader};
+ghost use Rattle.sealed.specs.Writes.{Writes, header-refusal, length-refusal, over, room-refusal};
+
+// Writes `text` from the place `at` on, and answers where it ends.
+fn put(text: &[u8], out: &mut [u8], at: usize) -> usize
+    requires { ⌜ at + length (now text) ≤ length (now out) ⌝ }
+    ensures end { λ r. ⌜ r ≡ at + length (now (text .entry)) ⌝ }
+    ensures after { λ _. ⌜ now (out .exit) ≡ over (now (out .entry)) at (now (text .entry)) ⌝ }
+{
+    let mut place = at;
+    for b in text {
+        out[place] = *b;
+        place += 1;
+    }
+    place
+}
+
+// How many digits `n` has.
+fn figure_count(n: u32) -> usize
+    ensures { λ r. ⌜ r ≡ length (figures n) ⌝ ∗ ⌜ r ≤ 10 ⌝ }
+{
+    if n < 10 {
+        return 1;
+    }
+    figure_count(n / 10) + 1
+}
+
+// Writes the digits of `n` from the place `at` on, and answers where they end.
+fn put_figures(n: u32, out: &mut [u8], at: usize) -> usize
+    requires { ⌜ at + length (figures n) ≤ length (now out) ⌝ }
+    ensures end { λ r. ⌜ r ≡ at + length (figures n) ⌝ }
+    ensures after { λ _. ⌜ now (out .exit) ≡ over (now (out .entry)) at (figures n) ⌝ }
+{
+    if n < 10 {
+        out[at] = b'0' + n as u8;
+        return at + 1;
+    }
+    let place = put_figures(n / 10, out, at);
+    out[place] = b'0' + (n % 10) as u8;
+    place + 1
+}
+
+// What is wrong with the numbers of a header: a slot above 7, then a kind that
+// is not from 1 to 9, then the serial 0, which is above no last serial.
+fn number_refusal(slot: u8, kind: u8, serial: u32) -> Option<Refusal>
+    ensures { λ r. ⌜ r ≡ header-refusal slot kind serial ⌝ }
+{
+    if u32::from(slot) > LAST_SLOT {
+        return Some(Refusal::NoSlot);
+    }
+    if kind < 1 || u32::from(kind) > LAST_KIND {
+        return Some(Refusal::OtherKind);
+    }
+    if serial < 1 {
+        return Some(Refusal::StaleSerial);
+    }
+    None
+}
+
+// Writes the header to the front of `out`.
+fn put_header(slot: u8, kind: u8, serial: u32, out: &mut [u8]) -> usize
+    requires { ⌜ length (header-of slot kind serial) ≤ length (now out) ⌝ }
+    ensures end { λ r. ⌜ r ≡ length (header-of slot kind serial) ⌝ }
+    ensures after { λ _. ⌜ now (out .exit) ≡ over (now (out .entry)) 0 (header-of slot kind serial) ⌝ }
+{
+    let at = put(b"(sealed (slot ", out, 0);
+    let at = put_figures(u32::from(slot), out, at);
+    let at = put(b") (kind ", out, at);
+    let at = put_figures(u32::from(kind), out, at);
+    let at = put(b") (serial ", out, at);
+    let at = put_figures(serial, out, at);
+    put(b") ", out, at)
+}
