@@ -5,3 +5,5 @@ pub mod Scans
 pub mod Fields
 pub mod Frames
 pub mod Overs
+pub mod Lengths
+pub mod Refusals

@@ -89,3 +89,7 @@ pub writes-all : (w before after : List ℕ) (n : ℕ) → length w ≤ length b
 writes-all w before after n h e a =
     let z : 0 + length w ≡ length w = omega arith in
     rw (le-ltb (length before) (length w) h) (ap Ok (e ∙ z), h, a ∙ ap (λ i. w ++ drop i before) z)
+
+-- a part written after what stands at the front already
+pub put-more : (o m a w v : List ℕ) (n : ℕ) → n ≡ length w → n ≤ length o → m ≡ over o 0 w → a ≡ over m n v → a ≡ over o 0 (w ++ v)
+put-more o m a w v n e h is next = next ∙ ap (λ z. over z n v) is ∙ over-over o 0 w n v (omega arith) h

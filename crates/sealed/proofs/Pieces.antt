@@ -24,7 +24,7 @@ use Rattle.shape.proofs.Tokens.{parts-agree}
 use Rattle.sealed.specs.Frame.{Value, HexOf, FromEnd, FromText, FromSiv, FromSerial, FromKind, Whole, Found, Missed}
 use Rattle.sealed.specs.Hex.{Byte, HexDigit, hex-of}
 use Rattle.sealed.specs.Limits.{last-slot, first-kind, last-kind, first-serial, last-serial, siv-length, text-length}
-use Rattle.sealed.specs.Line.{Parts, LawfulHeader, Lawful, SealedLine, OneReading, header-of, sealed-line}
+use Rattle.sealed.specs.Line.{Parts, LawfulHeader, Lawful, SealedLine, OneReading, header-of, rest-of, sealed-line}
 use Rattle.sealed.proofs.Hexes.{hex-digits, same-hex}
 use Rattle.sealed.proofs.Values.{figures-digits}
 
@@ -161,7 +161,7 @@ pub spelling-more : (p : Parts) (rest : List ℕ) → spelling p [] ++ rest ≡ 
 spelling-more p rest = simp append-assoc
 
 pub spelt : (p : Parts) → sealed-line p ≡ spelling p (10 ∷ [])
-unfolding sealed-line header-of
+unfolding sealed-line header-of rest-of
 spelt p = simp append-assoc
 
 -- a token and what follows it are the same in two equal writings

@@ -18,15 +18,20 @@ pub record Parts : Type 0 where
   pub siv : List ℕ
   pub text : List ℕ
 
+abbrev pub parts-in : (slot kind serial : ℕ) (siv text : List ℕ) → Parts
+parts-in slot kind serial siv text = record { slot = slot; kind = kind; serial = serial; siv = siv; text = text }
+
 -- the line up to and with the space before "(siv"
 unfoldable pub header-of : (slot kind serial : ℕ) → List ℕ
 header-of slot kind serial =
     codes "(sealed (slot " ++ (figures slot ++ (codes ") (kind " ++ (figures kind ++ (codes ") (serial " ++ (figures serial ++ codes ") ")))))
 
--- the whole line, its line end counted
+-- the line from there on, its line end counted
+unfoldable pub rest-of : (siv text : List ℕ) → List ℕ
+rest-of siv text = codes "(siv " ++ (hex-of siv ++ (codes ") (text " ++ (hex-of text ++ codes "))\n")))
+
 unfoldable pub sealed-line : Parts → List ℕ
-sealed-line p =
-    header-of (p .slot) (p .kind) (p .serial) ++ (codes "(siv " ++ (hex-of (p .siv) ++ (codes ") (text " ++ (hex-of (p .text) ++ codes "))\n"))))
+sealed-line p = header-of (p .slot) (p .kind) (p .serial) ++ rest-of (p .siv) (p .text)
 
 pub record LawfulHeader (slot kind serial : ℕ) : Type 0 where
   pub slot-last : slot ≤ last-slot

@@ -11,6 +11,7 @@ use Rattle.std.specs.declared.result.Result.{Result}
 use Rattle.std.specs.declared.result.Result.the-variants.{Ok, Err}
 use Rattle.refusal.specs.declared.Refusal.{Refusal}
 use Rattle.refusal.specs.declared.Refusal.the-variants.{NoSlot, OtherKind, StaleSerial, SivLength, LargeSheet, ShortOutput, ShortWork}
+use Rattle.sealed.specs.Line.{Parts, sealed-line}
 use Rattle.sealed.specs.Limits.{last-slot, first-kind, last-kind, first-serial, siv-length, text-length}
 
 -- a buffer with w written from the place `at` on, the rest as it was
@@ -41,3 +42,8 @@ Writes None w before after r = (r ≡ Ok (length w)) × (length w ≤ length bef
 abbrev pub Decodes : (bytes before after : List ℕ) → Result ℕ Refusal → Type 0
 Decodes bytes before after (Ok n) = (n ≡ length bytes) × (n ≤ length before) × (after ≡ bytes ++ drop n before)
 Decodes bytes before after (Err e) = (e ≡ ShortWork) × (length before < length bytes) × (after ≡ before)
+
+-- A line written from its parts.
+abbrev pub WritesLine : Parts → (before after : List ℕ) → Result ℕ Refusal → Type 0
+WritesLine p before after r =
+    Writes (room-refusal (length-refusal (header-refusal (p .slot) (p .kind) (p .serial)) (length (p .siv)) (length (p .text))) (length (sealed-line p)) (length before)) (sealed-line p) before after r

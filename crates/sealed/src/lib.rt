@@ -7,6 +7,7 @@
 
 mod hex;
 mod unchecked;
+mod wiped;
 mod writing;
 
 pub use hex::write_hex;
@@ -14,6 +15,9 @@ pub use unchecked::Ciphertext;
 pub use unchecked::SealedParts;
 pub use unchecked::Siv;
 pub use unchecked::Unchecked;
+pub use wiped::Wiped;
+pub use writing::write_header;
+pub use writing::write_line;
 
 // slots are numbered from 0
 pub const LAST_SLOT: u32 = 7;

@@ -9,8 +9,8 @@ ghost use mathlib.Core.Path.{_≡_};
 ghost use Prim.Native.Nat.{ℕ, _+_, _^_, _<_, _≤_};
 ghost use lib.ListN.{length};
 ghost use Rattle.shape.specs.Decimal.{figures};
-ghost use Rattle.sealed.specs.Line.{header-of, sealed-line, LongestHeader};
-ghost use Rattle.sealed.specs.Writes.{Writes, header-refusal, length-refusal, over, room-refusal};
+ghost use Rattle.sealed.specs.Line.{LongestHeader, header-of, parts-in, rest-of};
+ghost use Rattle.sealed.specs.Writes.{Writes, WritesLine, header-refusal, length-refusal, over, room-refusal};
 
 // Writes `text` from the place `at` on, and answers where it ends.
 fn put(text: &[u8], out: &mut [u8], at: usize) -> usize
@@ -81,4 +81,76 @@ fn put_header(slot: u8, kind: u8, serial: u32, out: &mut [u8]) -> usize
     let at = put(b") (serial ", out, at);
     let at = put_figures(serial, out, at);
     put(b") ", out, at)
+}
+
+// Writes the header to the front of `out` and answers its length. Refused are,
+// in this order, a slot above 7 (6), a kind that is not from 1 to 9 (12), the
+// serial 0 (22), an output that is too short (4); then `out` stays as it was.
+pub fn write_header(slot: u8, kind: u8, serial: u32, out: &mut [u8]) -> Result<usize, Refusal>
+    ensures writes { λ r. ⌜ Writes (room-refusal (header-refusal slot kind serial) (length (header-of slot kind serial)) (length (now (out .entry)))) (header-of slot kind serial) (now (out .entry)) (now (out .exit)) r ⌝ }
+    ensures longest { λ _. ⌜ LongestHeader ⌝ }
+{
+    if let Some(refusal) = number_refusal(slot, kind, serial) {
+        return Err(refusal);
+    }
+    if out.len() < 36 + figure_count(serial) {
+        return Err(Refusal::ShortOutput);
+    }
+    Ok(put_header(slot, kind, serial, out))
+}
+
+// What is wrong with the parts of a line: the numbers, then a SIV that has not
+// 8, 16 or 32 bytes, then a text of more than 16,384 bytes.
+fn parts_refusal(slot: u8, kind: u8, serial: u32, siv: usize, text: usize) -> Option<Refusal>
+    ensures { λ r. ⌜ r ≡ length-refusal (header-refusal slot kind serial) siv text ⌝ }
+{
+    if let Some(refusal) = number_refusal(slot, kind, serial) {
+        return Some(refusal);
+    }
+    if siv != 8 && siv != 16 && siv != 32 {
+        return Some(Refusal::SivLength);
+    }
+    if text > LONGEST_TEXT {
+        return Some(Refusal::LargeSheet);
+    }
+    None
+}
+
+// Writes what follows the header, from the place `at` on, and answers where the line ends.
+fn put_rest(siv: &[u8], text: &[u8], out: &mut [u8], at: usize) -> usize
+    requires { ⌜ at + length (rest-of (now siv) (now text)) ≤ length (now out) ⌝ }
+    ensures end { λ r. ⌜ r ≡ at + length (rest-of (now (siv .entry)) (now (text .entry))) ⌝ }
+    ensures after { λ _. ⌜ now (out .exit) ≡ over (now (out .entry)) at (rest-of (now (siv .entry)) (now (text .entry))) ⌝ }
+{
+    let at = put(b"(siv ", out, at);
+    let at = put_hex(siv, out, at);
+    let at = put(b") (text ", out, at);
+    let at = put_hex(text, out, at);
+    put(b"))\n", out, at)
+}
+
+// Writes the sealed line with these parts to the front of `out` and answers its
+// length. SIV and text are bytes and may stand in a work buffer. Refused are, in
+// this order, a slot above 7 (6), a kind that is not from 1 to 9 (12), the serial
+// 0 (22), a SIV that has not 8, 16 or 32 bytes (16), a text of more than 16,384
+// bytes (10), an output that is too short (4); then `out` stays as it was.
+pub fn write_line(
+    slot: u8,
+    kind: u8,
+    serial: u32,
+    siv: &[u8],
+    text: &[u8],
+    out: &mut [u8],
+) -> Result<usize, Refusal>
+    ensures { λ r. ⌜ WritesLine (parts-in slot kind serial (now (siv .entry)) (now (text .entry))) (now (out .entry)) (now (out .exit)) r ⌝ }
+{
+    if let Some(refusal) = parts_refusal(slot, kind, serial, siv.len(), text.len()) {
+        return Err(refusal);
+    }
+    let len = 52 + figure_count(serial) + 2 * siv.len() + 2 * text.len();
+    if out.len() < len {
+        return Err(Refusal::ShortOutput);
+    }
+    let at = put_header(slot, kind, serial, out);
+    Ok(put_rest(siv, text, out, at))
 }
