@@ -23,6 +23,10 @@ pub length-line : (p : Parts) → length (sealed-line p) ≡ length (header-of (
 unfolding sealed-line rest-of
 length-line p = simp (length-append, length-append) (omega (arith, length-hex (p .siv), length-hex (p .text)))
 
+pub length-rest : (siv text : List ℕ) → length (rest-of siv text) ≡ 16 + 2 * length siv + 2 * length text
+unfolding rest-of
+length-rest siv text = simp length-append (omega (arith, length-hex siv, length-hex text))
+
 siv-most : (n : ℕ) → siv-length n ≡ true → n ≤ longest-siv
 siv-most n h = grind (arith, tells)
 
@@ -42,6 +46,10 @@ fits l x =
 abbrev long : Parts
 long = record { slot = 7; kind = 9; serial = last-serial; siv = replicate longest-siv 0; text = replicate longest-text 0 }
 
+digits : length (figures last-serial) ≡ 10
+unfolding figures
+digits = refl
+
 pub longest-is : Longest
 longest-is = (fits, (sealed-line long, (long, lawful, refl), long-is))
   where
@@ -54,9 +62,6 @@ longest-is = (fits, (sealed-line long, (long, lawful, refl), long-is))
           text-long = ap text-length (length-replicate {A = ℕ} longest-text 0);
           text-bytes = zero-bytes longest-text;
         }
-
-    digits : length (figures last-serial) ≡ 10
-    digits = ?
 
     long-is : length (sealed-line long) ≡ 32894
     long-is = omega (arith, length-line long, length-header 7 9 last-serial, length-one 7 (omega arith), length-one 9 (omega arith), digits, length-replicate {A = ℕ} longest-siv 0, length-replicate {A = ℕ} longest-text 0)

@@ -90,6 +90,6 @@ writes-all w before after n h e a =
     let z : 0 + length w ≡ length w = omega arith in
     rw (le-ltb (length before) (length w) h) (ap Ok (e ∙ z), h, a ∙ ap (λ i. w ++ drop i before) z)
 
--- a part written after what stands at the front already
-pub put-more : (o m a w v : List ℕ) (n : ℕ) → n ≡ length w → n ≤ length o → m ≡ over o 0 w → a ≡ over m n v → a ≡ over o 0 (w ++ v)
-put-more o m a w v n e h is next = next ∙ ap (λ z. over z n v) is ∙ over-over o 0 w n v (omega arith) h
+-- a part written after what stands there already
+pub put-more : (o m a : List ℕ) (at : ℕ) (w v : List ℕ) (n : ℕ) → n ≡ at + length w → n ≤ length o → m ≡ over o at w → a ≡ over m n v → a ≡ over o at (w ++ v)
+put-more o m a at w v n e h is next = next ∙ ap (λ z. over z n v) is ∙ over-over o at w n v e h

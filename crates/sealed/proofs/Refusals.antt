@@ -15,9 +15,9 @@ use Rattle.refusal.specs.declared.Refusal.the-variants.{ShortOutput, SivLength,
 use Rattle.shape.specs.Decimal.{figures}
 use Rattle.shape.proofs.Figures.{length-one}
 use Rattle.sealed.specs.Limits.{last-serial, siv-length, text-length}
-use Rattle.sealed.specs.Line.{LawfulHeader, header-of}
+use Rattle.sealed.specs.Line.{Parts, LawfulHeader, header-of, sealed-line}
 use Rattle.sealed.specs.Writes.{over, header-refusal, length-refusal, room-refusal, Writes}
-use Rattle.sealed.proofs.Lengths.{length-header}
+use Rattle.sealed.proofs.Lengths.{length-header, length-line}
 use Rattle.sealed.proofs.Overs.{writes-short, writes-all}
 
 -- what passes the checks is lawful
@@ -28,6 +28,18 @@ pub short-header : (slot kind serial : ℕ) → None ≡ header-refusal slot kin
 short-header slot kind serial h l =
     let f = header-lawful slot kind serial h l in
     omega (arith, length-header slot kind serial, length-one slot (omega (arith, f .slot-last)), length-one kind (omega (arith, f .kind-last)))
+
+-- the numbers passed too where the lengths did
+pub passed : (q : Option Refusal) (siv text : ℕ) → None ≡ length-refusal q siv text → None ≡ q
+passed (Some e) siv text h = h
+passed None siv text h = refl
+
+pub lengths-lawful : (q : Option Refusal) (siv text : ℕ) → None ≡ length-refusal q siv text → (siv-length siv ≡ true) × (text-length text ≡ true)
+lengths-lawful (Some e) siv text h = absurd (let z : _≡_ {A = ℕ} 0 1 = cc in omega arith)
+lengths-lawful None siv text h = (grind (arith, tells), grind (arith, tells))
+
+pub line-long : (p : Parts) → None ≡ header-refusal (p .slot) (p .kind) (p .serial) → p .serial ≤ last-serial → length (sealed-line p) ≡ 52 + length (figures (p .serial)) + 2 * length (p .siv) + 2 * length (p .text)
+line-long p h l = omega (arith, length-line p, short-header (p .slot) (p .kind) (p .serial) h l)
 
 module _ (q : Option Refusal) (w before : List ℕ) where
   pub refuses : (e : Refusal) → Some e ≡ q → Writes (room-refusal q (length w) (length before)) w before before (Err e)

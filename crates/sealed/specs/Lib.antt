@@ -5,3 +5,4 @@ pub mod Frame
 pub mod Sheet
 pub mod Writes
 pub mod Opening
+pub mod Law

@@ -2,14 +2,19 @@
 
 use crate::LAST_KIND;
 use crate::LAST_SLOT;
+use crate::LONGEST_HEADER;
+use crate::LONGEST_LINE;
 use crate::LONGEST_TEXT;
 use crate::hex::put_hex;
+use crate::unchecked::Unchecked;
 use refusal::Refusal;
 ghost use mathlib.Core.Path.{_≡_};
 ghost use Prim.Native.Nat.{ℕ, _+_, _^_, _<_, _≤_};
 ghost use lib.ListN.{length};
 ghost use Rattle.shape.specs.Decimal.{figures};
-ghost use Rattle.sealed.specs.Line.{LongestHeader, header-of, parts-in, rest-of};
+ghost use Rattle.sealed.specs.Limits.{longest-header, longest-line};
+ghost use Rattle.sealed.specs.Law.{ReadsBack};
+ghost use Rattle.sealed.specs.Line.{Longest, LongestHeader, header-of, parts-in, rest-of};
 ghost use Rattle.sealed.specs.Writes.{Writes, WritesLine, header-refusal, length-refusal, over, room-refusal};
 
 // Writes `text` from the place `at` on, and answers where it ends.
@@ -153,4 +158,29 @@ pub fn write_line(
     }
     let at = put_header(slot, kind, serial, out);
     Ok(put_rest(siv, text, out, at))
+}
+
+// The length of the longest sealed line, and of the longest header: no line and
+// no header is longer, and one line is as long.
+pub fn longest_line() -> (usize, usize)
+    ensures value { λ r. ⌜ r ≡ (longest-line, longest-header) ⌝ }
+    ensures longest { λ _. ⌜ Longest ⌝ ∗ ⌜ LongestHeader ⌝ }
+{
+    (LONGEST_LINE, LONGEST_HEADER)
+}
+
+// Writes the line with these parts and reads it back: what reading finds is
+// exactly what was written, and only the writing can refuse.
+pub fn write_and_read<'a>(
+    slot: u8,
+    kind: u8,
+    serial: u32,
+    siv: &[u8],
+    text: &[u8],
+    out: &'a mut [u8],
+) -> Result<Unchecked<'a>, Refusal>
+    ensures { λ r. ⌜ ReadsBack (parts-in slot kind serial (now (siv .entry)) (now (text .entry))) (length (now (out .entry))) r ⌝ }
+{
+    let n = write_line(slot, kind, serial, siv, text, out)?;
+    Unchecked::read(&out[0..n])
 }

@@ -60,11 +60,11 @@ returns c =
     let n₄ : c .put-figures-at-2 .result ≡ length w₄ = c .put-figures-at-2 .ensures .end ∙ omega (arith, n₃, ap length eb) in
     let n₅ : c .put-at-3 .result ≡ length w₅ = c .put-at-3 .ensures .end ∙ omega (arith, n₄) in
     let n₆ : c .put-figures-at-3 .result ≡ length w₆ = c .put-figures-at-3 .ensures .end ∙ omega (arith, n₅) in
-    let m₂ : c .put-figures-at .last .out ≡ over o 0 w₂ = put-more o _ _ w₁ a _ n₁ (omega (arith, n₁)) (c .put-at .ensures .after) (c .put-figures-at .ensures .after ∙ ap (over (c .put-at .last .out) (c .put-at .result)) ea) in
-    let m₃ : c .put-at-2 .last .out ≡ over o 0 w₃ = put-more o _ _ w₂ (codes ") (kind ") _ n₂ (omega (arith, n₂)) m₂ (c .put-at-2 .ensures .after) in
-    let m₄ : c .put-figures-at-2 .last .out ≡ over o 0 w₄ = put-more o _ _ w₃ b _ n₃ (omega (arith, n₃)) m₃ (c .put-figures-at-2 .ensures .after ∙ ap (over (c .put-at-2 .last .out) (c .put-at-2 .result)) eb) in
-    let m₅ : c .put-at-3 .last .out ≡ over o 0 w₅ = put-more o _ _ w₄ (codes ") (serial ") _ n₄ (omega (arith, n₄)) m₄ (c .put-at-3 .ensures .after) in
-    let m₆ : c .put-figures-at-3 .last .out ≡ over o 0 w₆ = put-more o _ _ w₅ d _ n₅ (omega (arith, n₅)) m₅ (c .put-figures-at-3 .ensures .after) in
-    let m₇ : c .put .last .out ≡ over o 0 (w₆ ++ codes ") ") = put-more o _ _ w₆ (codes ") ") _ n₆ (omega (arith, n₆)) m₆ (c .put .ensures .after) in
+    let m₂ : c .put-figures-at .last .out ≡ over o 0 w₂ = put-more o _ _ 0 w₁ a _ (omega (arith, n₁)) (omega (arith, n₁)) (c .put-at .ensures .after) (c .put-figures-at .ensures .after ∙ ap (over (c .put-at .last .out) (c .put-at .result)) ea) in
+    let m₃ : c .put-at-2 .last .out ≡ over o 0 w₃ = put-more o _ _ 0 w₂ (codes ") (kind ") _ (omega (arith, n₂)) (omega (arith, n₂)) m₂ (c .put-at-2 .ensures .after) in
+    let m₄ : c .put-figures-at-2 .last .out ≡ over o 0 w₄ = put-more o _ _ 0 w₃ b _ (omega (arith, n₃)) (omega (arith, n₃)) m₃ (c .put-figures-at-2 .ensures .after ∙ ap (over (c .put-at-2 .last .out) (c .put-at-2 .result)) eb) in
+    let m₅ : c .put-at-3 .last .out ≡ over o 0 w₅ = put-more o _ _ 0 w₄ (codes ") (serial ") _ (omega (arith, n₄)) (omega (arith, n₄)) m₄ (c .put-at-3 .ensures .after) in
+    let m₆ : c .put-figures-at-3 .last .out ≡ over o 0 w₆ = put-more o _ _ 0 w₅ d _ (omega (arith, n₅)) (omega (arith, n₅)) m₅ (c .put-figures-at-3 .ensures .after) in
+    let m₇ : c .put .last .out ≡ over o 0 (w₆ ++ codes ") ") = put-more o _ _ 0 w₆ (codes ") ") _ (omega (arith, n₆)) (omega (arith, n₆)) m₆ (c .put .ensures .after) in
     let e : w₆ ++ codes ") " ≡ header-of (c .args .slot) (c .args .kind) (c .args .serial) = simp append-assoc in
     record { end = c .put .ensures .end ∙ omega (arith, n₆, long); after = m₇ ∙ ap (over o 0) e }
