@@ -7,3 +7,4 @@ pub mod Frames
 pub mod Overs
 pub mod Lengths
 pub mod Refusals
+pub mod Backs

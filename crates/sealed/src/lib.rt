@@ -17,6 +17,7 @@ pub use unchecked::Siv;
 pub use unchecked::Unchecked;
 pub use wiped::Wiped;
 pub use writing::write_header;
+pub use writing::longest_header;
 pub use writing::longest_line;
 pub use writing::write_and_read;
 pub use writing::write_line;

@@ -92,8 +92,7 @@ fn put_header(slot: u8, kind: u8, serial: u32, out: &mut [u8]) -> usize
 // in this order, a slot above 7 (6), a kind that is not from 1 to 9 (12), the
 // serial 0 (22), an output that is too short (4); then `out` stays as it was.
 pub fn write_header(slot: u8, kind: u8, serial: u32, out: &mut [u8]) -> Result<usize, Refusal>
-    ensures writes { λ r. ⌜ Writes (room-refusal (header-refusal slot kind serial) (length (header-of slot kind serial)) (length (now (out .entry)))) (header-of slot kind serial) (now (out .entry)) (now (out .exit)) r ⌝ }
-    ensures longest { λ _. ⌜ LongestHeader ⌝ }
+    ensures { λ r. ⌜ Writes (room-refusal (header-refusal slot kind serial) (length (header-of slot kind serial)) (length (now (out .entry)))) (header-of slot kind serial) (now (out .entry)) (now (out .exit)) r ⌝ }
 {
     if let Some(refusal) = number_refusal(slot, kind, serial) {
         return Err(refusal);
@@ -160,13 +159,20 @@ pub fn write_line(
     Ok(put_rest(siv, text, out, at))
 }
 
-// The length of the longest sealed line, and of the longest header: no line and
-// no header is longer, and one line is as long.
-pub fn longest_line() -> (usize, usize)
-    ensures value { λ r. ⌜ r ≡ (longest-line, longest-header) ⌝ }
-    ensures longest { λ _. ⌜ Longest ⌝ ∗ ⌜ LongestHeader ⌝ }
+// The length of the longest sealed line: none is longer, and one is as long.
+pub fn longest_line() -> usize
+    ensures value { λ r. ⌜ r ≡ longest-line ⌝ }
+    ensures longest { λ _. ⌜ Longest ⌝ }
 {
-    (LONGEST_LINE, LONGEST_HEADER)
+    LONGEST_LINE
+}
+
+// The length of the longest header: a buffer of so many bytes has room for any.
+pub fn longest_header() -> usize
+    ensures value { λ r. ⌜ r ≡ longest-header ⌝ }
+    ensures longest { λ _. ⌜ LongestHeader ⌝ }
+{
+    LONGEST_HEADER
 }
 
 // Writes the line with these parts and reads it back: what reading finds is

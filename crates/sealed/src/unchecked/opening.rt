@@ -6,12 +6,13 @@ use super::Siv;
 use super::Unchecked;
 use crate::LONGEST_SIV;
 use crate::hex::put_bytes;
+use crate::wiped::Wiped;
 use refusal::Refusal;
 ghost use mathlib.Core.Path.{_≡_};
 ghost use mathlib.Core.List.{List};
 ghost use Prim.Native.Nat.{ℕ, _≤_};
-ghost use lib.ListN.{length};
-ghost use Rattle.sealed.specs.Opening.{ApartFrom, HoldsSiv, cipher-of};
+ghost use lib.ListN.{length, replicate};
+ghost use Rattle.sealed.specs.Opening.{ApartFrom, Compares, HoldsSiv, cipher-of};
 ghost use Rattle.sealed.specs.Hex.{bytes-of};
 ghost use Rattle.sealed.specs.Limits.{longest-siv};
 ghost use Rattle.sealed.specs.Sheet.{ReadFrom};
@@ -86,5 +87,24 @@ impl Ciphertext<'_> {
             return Err(Refusal::ShortWork);
         }
         Ok(put_bytes(digits, work))
+    }
+
+    // Whether the masked text is `bytes`, compared in `work`, which holds zeros
+    // on every way out.
+    pub fn is(self, bytes: &[u8], work: &mut [u8]) -> Result<bool, Refusal>
+        ensures wiped { λ _. ⌜ now (work .exit) ≡ replicate (length (now (work .entry))) 0 ⌝ }
+        ensures value { λ r. ⌜ Compares (cipher-of (self .entry)) (now (bytes .entry)) (length (now (work .entry))) r ⌝ }
+    {
+        let guard = Wiped { work };
+        let n = self.decode(&mut guard.work[..])?;
+        if n != bytes.len() {
+            return Ok(false);
+        }
+        for i in 0..n {
+            if guard.work[i] != bytes[i] {
+                return Ok(false);
+            }
+        }
+        Ok(true)
     }
 }
