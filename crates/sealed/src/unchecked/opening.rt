@@ -91,7 +91,7 @@ impl Ciphertext<'_> {
 
     // Whether the masked text is `bytes`, compared in `work`, which holds zeros
     // on every way out.
-    pub fn is(self, bytes: &[u8], work: &mut [u8]) -> Result<bool, Refusal>
+    pub fn equals(self, bytes: &[u8], work: &mut [u8]) -> Result<bool, Refusal>
         ensures wiped { λ _. ⌜ now (work .exit) ≡ replicate (length (now (work .entry))) 0 ⌝ }
         ensures value { λ r. ⌜ Compares (cipher-of (self .entry)) (now (bytes .entry)) (length (now (work .entry))) r ⌝ }
     {
@@ -100,11 +100,6 @@ impl Ciphertext<'_> {
         if n != bytes.len() {
             return Ok(false);
         }
-        for i in 0..n {
-            if guard.work[i] != bytes[i] {
-                return Ok(false);
-            }
-        }
-        Ok(true)
+        Ok(&guard.work[0..n] == bytes)
     }
 }
