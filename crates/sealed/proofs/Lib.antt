@@ -1,0 +1,10 @@
+pub mod Hexes
+pub mod Values
+pub mod Pieces
+pub mod Scans
+pub mod Fields
+pub mod Frames
+pub mod Overs
+pub mod Lengths
+pub mod Refusals
+pub mod Backs
