@@ -9,7 +9,7 @@ use lib.Dec.{eqb}
 use lib.ListN.{length, getD, take, drop}
 use Rattle.std.specs.shelf.Lists.{All, joined}
 use Rattle.std.proofs.shelf.Elements.{all-from-getD, all-append, all-weaker}
-use Rattle.std.proofs.shelf.Lists.{append-nil, take-append-drop, length-take-le, getD-take, drop-more, take-more, length-drop, take-all}
+use Rattle.std.proofs.shelf.Lists.{append-nil, take-append-drop, length-take-le, getD-take, drop-more, take-more, length-drop, take-all, drop-all}
 use Rattle.std.proofs.shelf.Tests.{cond-true, cond-false, ne-eqb, eqb-true, cases-bool}
 use Rattle.shape.specs.Form.{Form, Args, form, none, number, inner, written, closed, Letter, Digit, Unsigned, Number, Shaped, ShapedArgs, WellShaped}
 use Rattle.shape.specs.Limits.{deepest}
@@ -39,9 +39,21 @@ first-whole t n l e none′ =
     ap lines (sym (take-append-drop n t) ∙ ap (λ z. take n t ++ z) d) ∙ lines-whole (take n t) (drop (n + 1) t) a ∙ ap (λ z. z ∷ lines (drop (n + 1) t)) (sym f)
 
 -- all of a text that has no line end
-pub first-last : (t : List ℕ) → 0 < length t → ((k : ℕ) → k < length t → getD t k 0 ≡ 10 → ⊥) → lines t ≡ t ∷ []
+first-last : (t : List ℕ) → 0 < length t → ((k : ℕ) → k < length t → getD t k 0 ≡ 10 → ⊥) → lines t ≡ t ∷ []
 first-last [] l none′ = absurd (omega arith)
 first-last (b ∷ t) l none′ = lines-last b t (all-from-getD Inner (b ∷ t) 0 none′)
+
+pub last-cut : (t : List ℕ) → 0 < length t → ((k : ℕ) → k < length t → getD t k 0 ≡ 10 → ⊥) → lines t ≡ take (length t) t ∷ lines (drop (length t) t)
+last-cut t l none′ = first-last t l none′ ∙ ap (λ z. z ∷ []) (sym (take-all (length t) t (omega arith))) ∙ ap (λ z. take (length t) t ∷ lines z) (sym (drop-all (length t) t (omega arith)))
+
+-- a text that is not empty has a line
+onto-some : (b : ℕ) (ls : List (List ℕ)) → 0 < length (onto b ls)
+onto-some b [] = omega arith
+onto-some b (l ∷ ls) = omega arith
+
+pub lines-some : (t : List ℕ) → 0 < length t → 0 < length (lines t)
+lines-some [] h = absurd (omega arith)
+lines-some (b ∷ t) h = ⊎-elim (λ e. rw (cond-true (eqb b 10) ((b ∷ []) ∷ lines t) (onto b (lines t)) e) (omega arith)) (λ e. rw (cond-false (eqb b 10) ((b ∷ []) ∷ lines t) (onto b (lines t)) e) (onto-some b (lines t))) (cases-bool (eqb b 10))
 
 -- the lines joined are the text
 onto-joins : (b : ℕ) (ls : List (List ℕ)) → joined (λ l. l) (onto b ls) ≡ b ∷ joined (λ l. l) ls

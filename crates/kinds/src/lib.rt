@@ -10,4 +10,10 @@ mod tray;
 
 pub use kind::Kind;
 pub use kind::LONGEST_LINE;
+pub use text::MOST_BYTES;
+pub use text::MOST_ITEMS;
+pub use text::check;
+pub use text::fill;
+pub use text::measure;
+pub use text::write_text;
 pub use tray::Tray;
