@@ -11,7 +11,7 @@ use Rattle.std.specs.shelf.Lists.{All}
 use Rattle.std.specs.declared.option.Option.{Option}
 use Rattle.std.specs.declared.option.Option.the-variants.{Some, None}
 use Rattle.std.proofs.shelf.Elements.{all-getD, all-more}
-use Rattle.std.proofs.shelf.Lists.{take-all, drop-all, drop-drop, length-drop, getD-drop, take-append-drop, take-more, take-more-set, drop-set-lt, drop-more, take-rest}
+use Rattle.std.proofs.shelf.Lists.{take-all, drop-all, drop-drop, length-drop, getD-drop, take-append-drop, take-more, take-more-set, drop-set-lt, drop-more, take-rest, length-take-le}
 use Rattle.kinds.specs.Limits.{most-items}
 use Rattle.kinds.specs.Text.{lines, onto, ColumnOf, Good, items-of, Reads, Faulty, FirstLine, NextLine}
 use Rattle.kinds.proofs.Cut.{lines-some}
@@ -26,14 +26,9 @@ next-line t rest at n h is f =
     let s = f′ .1 (omega arith) in
     let z : n - 0 ≡ n = omega arith in
     let l : take (n - 0) rest ≡ take n (drop at t) = ap₂ take z r in
-    let long : length (take n (drop at t)) ≡ n = front n (drop at t) (f′ .0) in
+    let long : length (take n (drop at t)) ≡ n = length-take-le n (drop at t) (f′ .0) in
     let e : lines (drop at t) ≡ take n (drop at t) ∷ lines (drop (at + length (take n (drop at t))) t) = s .1 ∙ ap (λ y. take n (drop at t) ∷ lines y) (drop-drop n at t ∙ ap (λ m. drop (at + m) t) (sym long)) in
     rw l (record { some = omega (arith, long, s .0); fits = omega (arith, long, f′ .0); cut = e })
-  where
-    use Rattle.std.proofs.shelf.Lists.{length-take-le}
-
-    front : (n : ℕ) (u : List ℕ) → n ≤ length u → length (take n u) ≡ n
-    front n u k = length-take-le n u k
 
 module _ {X : Type 0} (reading : List ℕ → Option X) (t : List ℕ) where
   -- the lines before a place, so many, are good
@@ -72,6 +67,10 @@ module _ {X : Type 0} (reading : List ℕ → Option X) (t : List ℕ) where
 
       pub is-line : getD (lines t) count [] ≡ l
       is-line = ap (λ n. getD (lines t) n []) (omega arith) ∙ sym (getD-drop count (lines t) 0 []) ∙ ap (λ ls. getD ls 0 []) cut
+
+      -- in a text that is read as a list every line is good
+      pub along-read : (xs : List X) → Reads reading t xs → Good reading l
+      along-read xs r = subst (λ z. Good reading z) is-line (all-getD (Good reading) (lines t) count [] more (items-good reading (lines t) xs (r .items)))
 
       pub along-fault : (c : ℕ) → count < most-items → (Good reading l → ⊥) → ColumnOf l c → Faulty reading t (count + 1) c
       along-fault c small bad col =

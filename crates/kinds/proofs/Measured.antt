@@ -8,7 +8,12 @@ use native.Mathlib.Omega.{arith}
 use lib.ListN.{length, getD, take, drop, length-append}
 use Rattle.std.specs.shelf.Lists.{All, joined}
 use Rattle.std.proofs.shelf.Elements.{all-more}
-use Rattle.std.proofs.shelf.Lists.{take-more, joined-more, take-all, getD-default}
+use Rattle.std.proofs.shelf.Lists.{take-more, joined-more, take-all, getD-default, at-drop-more, at-drop-all}
+use Rattle.std.proofs.shelf.Tests.{both-ways}
+use Rattle.std.specs.declared.result.Result.{Result}
+use Rattle.std.specs.declared.result.Result.the-variants.{Ok, Err}
+use Rattle.refusal.specs.declared.Refusal.{Refusal}
+use Rattle.kinds.specs.Kind.{Writes}
 use Rattle.kinds.specs.Limits.{most-items, most-bytes, longest-line}
 use Rattle.kinds.specs.Text.{AllLawful, text-of, Sheet, FirstUnlawful}
 
@@ -63,3 +68,15 @@ module _ {X : Type 0} (lawful : X → Bool) (line : X → List ℕ) (xs : List X
 
     pub measured-all : length xs ≤ most-items → total ≤ most-bytes → Sheet lawful line xs × (total ≡ length (text-of line xs))
     measured-all few l = (record { all-lawful = measured-lawful; few = few; short = omega (arith, counted .exact l) }, counted .exact l)
+
+-- Writing an item: a lawful one is not refused where its line fits.
+pub write-granted : (lawful : Bool) (w before after : List ℕ) (r : Result ℕ Refusal) → lawful ≡ true → length w ≤ length before → Writes lawful w before after r → ((n : ℕ) → r ≡ Ok n → ⊥) → ⊥
+write-granted b w before after (Ok n) e room k never = never n refl
+write-granted b w before after (Err x) e room k never = ⊎-elim (λ p. both-ways b (p .0) e) (λ p. omega (arith, p .1)) (k .0)
+
+-- the text from an item on
+pub next-text : {X : Type 0} (line : X → List ℕ) (xs : List X) (i : ℕ) (x : X) → i < length xs → x ≡ getD xs i x → text-of line (drop i xs) ≡ line x ++ text-of line (drop (i + 1) xs)
+next-text line xs i x h is = at-drop-more (text-of line) xs i x h ∙ ap (λ y. line y ++ text-of line (drop (i + 1) xs)) (sym is)
+
+pub no-text : {X : Type 0} (line : X → List ℕ) (xs : List X) (i : ℕ) → length xs ≤ i → text-of line (drop i xs) ≡ []
+no-text line xs i h = at-drop-all (text-of line) xs i h

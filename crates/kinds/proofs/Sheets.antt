@@ -24,8 +24,11 @@ same-column l c c′ k k′ =
     ⊎-elim (λ e. e) (λ ne. let not-shaped : WellShaped l → ⊥ = λ w. ne (k .0 w ∙ sym (k′ .0 w)) in one-column WellShaped l c c′ (k .1 not-shaped) (k′ .1 not-shaped)) (cases-eq c c′)
 
 module _ {X : Type 0} (reading : List ℕ → Option X) where
+  pub none-bad : (l : List ℕ) → reading l ≡ None → Good reading l → ⊥
+  none-bad l e g = let z : _≡_ {A = Bool} false true = ap isSome (sym e) ∙ g in let n : _≡_ {A = ℕ} 0 1 = cc in omega arith
+
   good-some : (l : List ℕ) (o : Option X) → reading l ≡ o → Good reading l → (x : X) × (reading l ≡ Some x)
-  good-some l None e g = absurd (let z : _≡_ {A = Bool} false true = ap isSome (sym e) ∙ g in let n : _≡_ {A = ℕ} 0 1 = cc in omega arith)
+  good-some l None e g = absurd (none-bad l e g)
   good-some l (Some x) e g = (x, e)
 
   add-some : (o : Option X) (r : Option (List X)) (xs : List X) → add o r ≡ Some xs → (x : X) × (ys : List X) × (o ≡ Some x) × (r ≡ Some ys) × (xs ≡ x ∷ ys)

@@ -81,10 +81,10 @@ pub fn check<K: Kind>(text: &[u8]) -> Result<usize, Refusal>
             return Err(Refusal::NoSheet { line: count + 1, column: 0 });
         }
         let line = next_line(text, at);
-        if K::read(line).is_none() {
+        let Some(_) = K::read(line) else {
             let column = fault_column(line);
             return Err(Refusal::NoSheet { line: count + 1, column });
-        }
+        };
         at += line.len();
         count += 1;
     }

@@ -1,6 +1,6 @@
-use borrow.Author.Needs.{needs}
+use mathlib.Core.Path.{refl}
+use Rattle.kinds.proofs.Along.{next-line}
 use Rattle.kinds.proofs.text.next_line.Needs as need
 
--- src/text.rt:126:1
 pub returns : need.returns
-returns c = ?
+returns c = next-line (c .args .text .now) _ (c .args .at) (c .first-line .result) (c .pre) refl (c .first-line .ensures)
