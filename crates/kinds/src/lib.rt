@@ -17,3 +17,4 @@ pub use text::fill;
 pub use text::measure;
 pub use text::write_text;
 pub use tray::Tray;
+pub use tray::load;

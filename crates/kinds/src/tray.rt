@@ -1,5 +1,7 @@
 //! Trays: places that the caller lends for items, and how many of them are filled.
 
+use crate::kind::Kind;
+use crate::text::fill;
 use refusal::Refusal;
 ghost use mathlib.Core.Path.{_≡_};
 ghost use mathlib.Core.Bool.{cond};
@@ -7,10 +9,12 @@ ghost use Prim.Native.Nat.{ℕ, _+_, _<_};
 ghost use lib.Dec.{ltb};
 ghost use lib.ListN.{length, set, take};
 ghost use denote.Ref.{name};
+ghost use Rattle.std.specs.Results.{Cases as ByOk};
 ghost use Rattle.std.specs.declared.result.Result.the-variants.{Ok, Err};
 ghost use Rattle.std.specs.shelf.Maps.{nth};
 ghost use Rattle.refusal.specs.declared.Refusal.the-variants.{SmallTray};
 ghost use Rattle.kinds.specs.Held.{held};
+ghost use Rattle.kinds.specs.Text.{Fills};
 
 // Items of one type, in their order, in places that the caller lends.
 #[derive(Drop)]
@@ -105,4 +109,20 @@ fn put<T: Copy>(items: &mut [T], index: usize, item: T)
     ensures { λ _. ⌜ now (items .exit) ≡ set (now (items .entry)) index item ⌝ }
 {
     items[index] = item;
+}
+
+// Reads a text into the tray: its items replace what the tray held, and their
+// count is answered. A refusal leaves the tray as it was.
+pub fn load<K: Kind>(text: &[u8], tray: &mut Tray<'_, K::Item>) -> Result<usize, Refusal>
+    ensures answer { λ r. ⌜ Fills (K·Kind .reading) (now (text .entry)) (now (now (tray .entry) .items)) (now (now (tray .exit) .items)) r ⌝ }
+    ensures count { λ r. ⌜ ByOk r (λ n. now (tray .exit) .count ≡ n) (λ _. now (tray .exit) .count ≡ now (tray .entry) .count) ⌝ }
+    ensures lent { λ _. ⌜ name (now (tray .exit) .items) ≡ name (now (tray .entry) .items) ⌝ }
+{
+    match fill::<K>(text, tray.items) {
+        Ok(count) => {
+            tray.count = count;
+            Ok(count)
+        }
+        Err(why) => Err(why),
+    }
 }
