@@ -1,0 +1,7 @@
+use mathlib.Core.Path.{sym}
+use native.Mathlib.Omega.{arith}
+use Rattle.patterns.proofs.Spell.{in-ranges-all}
+use Rattle.patterns.proofs.write.Needs as need
+
+pub measured-requires : need.measured-requires
+measured-requires c κs = in-ranges-all _ _ (sym (c .if-not-all-within .ensures tt)) .0
