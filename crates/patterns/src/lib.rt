@@ -58,11 +58,14 @@ pub fn write(
     }
 }
 
-// The values that make a line by a pattern; nothing exactly where none in the
-// ranges do, if the pattern fits them.
-pub fn read<const N: usize>(pattern: &[u8], ranges: &[Range; N], line: &[u8]) -> Option<[i32; N]>
-    ensures { λ r. ⌜ ReadsPattern (now (pattern .entry)) (now (ranges .entry)) (now (line .entry)) r ⌝ }
+// The `N` values that make a line by a pattern with as many ranges; nothing
+// exactly where no values in the ranges do, if the pattern fits them.
+pub fn read<const N: usize>(pattern: &[u8], ranges: &[Range], line: &[u8]) -> Option<[i32; N]>
+    ensures { λ r. ⌜ (length (now (ranges .entry)) ≡ N → ReadsPattern (now (pattern .entry)) (now (ranges .entry)) (now (line .entry)) r) ⌝ }
 {
+    if ranges.len() != N {
+        return None;
+    }
     let mut values = [0; N];
     if find_values(pattern, ranges, line, &mut values) {
         Some(values)
@@ -151,8 +154,13 @@ fn put_digits(values: &[i32], next: usize, out: &mut [u8]) -> usize
 }
 
 // Puts the values that make a line into `values`; says whether there are any.
-fn find_values(pattern: &[u8], ranges: &[Range], line: &[u8], values: &mut [i32]) -> bool
-    requires { ⌜ length (now values) ≡ length (now ranges) ⌝ }
+fn find_values<const N: usize>(
+    pattern: &[u8],
+    ranges: &[Range],
+    line: &[u8],
+    values: &mut [i32; N],
+) -> bool
+    requires { ⌜ length (now ranges) ≡ N ⌝ ∗ ⌜ length (now values) ≡ N ⌝ }
     ensures { λ r. ⌜ When r (Makes (now (pattern .entry)) (now (ranges .entry)) (now (line .entry)) (now (values .exit))) (ReadsPattern (now (pattern .entry)) (now (ranges .entry)) (now (line .entry)) None) ⌝ }
 {
     let mut at = 0;
