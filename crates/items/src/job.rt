@@ -3,7 +3,15 @@
 use kinds::Kind;
 use patterns::Range;
 use refusal::Refusal;
-ghost use Rattle.items.specs.Job.{job-lawful, job-line, job-reading};
+ghost use mathlib.Core.Path.{_≡_};
+ghost use mathlib.Core.Bool.{true};
+ghost use mathlib.Core.List.{[], _∷_};
+ghost use Prim.Native.Nat.{ℕ};
+ghost use Rattle.std.specs.Options.{Cases as BySome};
+ghost use Rattle.kinds.specs.Kind.{Writes};
+ghost use Rattle.patterns.specs.Pattern.{Makes, fitting, in-ranges, spelt};
+ghost use Rattle.items.specs.Job.{coordinates, job-lawful, job-line, job-reading};
+ghost use Rattle.items.specs.declared.job.JobItem.the-variants.{Arc, Panel};
 
 // A place on the cloth, in tenths of a millimetre.
 #[derive(Clone, Copy, PartialEq, Eq, Debug)]
@@ -92,11 +100,8 @@ pub impl Kind for Job as JobKind {
     }
 
     fn read(text: &[u8]) -> Option<JobItem> {
-        if let Some([number, cloth]) = patterns::read(PANEL, &[PANEL_NUMBERS, CLOTH_NUMBERS], text) {
-            return Some(JobItem::Panel {
-                number: number as u16,
-                cloth: cloth as u16,
-            });
+        if let Some(item) = read_panel(text) {
+            return Some(item);
         }
         if let Some(to) = read_point(MOVE, text) {
             return Some(JobItem::Move(to));
@@ -117,15 +122,6 @@ pub impl Kind for Job as JobKind {
     }
 }
 
-ghost use mathlib.Core.Path.{_≡_};
-ghost use mathlib.Core.Bool.{true};
-ghost use mathlib.Core.List.{[], _∷_};
-ghost use Rattle.std.specs.Options.{Cases as BySome};
-ghost use Rattle.kinds.specs.Kind.{Writes};
-ghost use Rattle.patterns.specs.Pattern.{Makes, fitting, in-ranges, spelt};
-ghost use Rattle.items.specs.Job.{coordinates};
-ghost use Rattle.items.specs.declared.job.JobItem.the-variants.{Arc};
-
 // Writes the line of a pattern with one point.
 fn write_point(pattern: &[u8], to: Point, out: &mut [u8]) -> Result<usize, Refusal>
     ensures { λ r. ⌜ Writes (in-ranges (coordinates ∷ coordinates ∷ []) (to .x ∷ to .y ∷ [])) (spelt (now (pattern .entry)) (to .x ∷ to .y ∷ [])) (now (out .entry)) (now (out .exit)) r ⌝ }
@@ -137,8 +133,24 @@ fn write_point(pattern: &[u8], to: Point, out: &mut [u8]) -> Result<usize, Refus
 fn read_point(pattern: &[u8], text: &[u8]) -> Option<Point>
     ensures { λ r. ⌜ BySome r (fitting (now (pattern .entry)) (coordinates ∷ coordinates ∷ []) ≡ true → (to : Point) → Makes (now (pattern .entry)) (coordinates ∷ coordinates ∷ []) (now (text .entry)) (to .x ∷ to .y ∷ []) → ⊥) (λ to. Makes (now (pattern .entry)) (coordinates ∷ coordinates ∷ []) (now (text .entry)) (to .x ∷ to .y ∷ [])) ⌝ }
 {
-    match patterns::read(pattern, &[COORDINATES, COORDINATES], text) {
-        Some([x, y]) => Some(Point { x, y }),
+    match patterns::read::<2>(pattern, &[COORDINATES, COORDINATES], text) {
+        Some(values) => Some(Point {
+            x: values[0],
+            y: values[1],
+        }),
+        None => None,
+    }
+}
+
+// The panel of a line; nothing exactly where there is none.
+fn read_panel(text: &[u8]) -> Option<JobItem>
+    ensures { λ r. ⌜ BySome r ((number cloth : ℕ) → job-lawful (Panel number cloth) ≡ true → job-line (Panel number cloth) ≡ now (text .entry) → ⊥) (λ item. (job-lawful item ≡ true) × (job-line item ≡ now (text .entry))) ⌝ }
+{
+    match patterns::read::<2>(PANEL, &[PANEL_NUMBERS, CLOTH_NUMBERS], text) {
+        Some(values) => Some(JobItem::Panel {
+            number: values[0] as u16,
+            cloth: values[1] as u16,
+        }),
         None => None,
     }
 }
@@ -148,12 +160,17 @@ fn read_arc(text: &[u8]) -> Option<JobItem>
     ensures { λ r. ⌜ BySome r ((via to : Point) → job-lawful (Arc via to) ≡ true → job-line (Arc via to) ≡ now (text .entry) → ⊥) (λ item. (job-lawful item ≡ true) × (job-line item ≡ now (text .entry))) ⌝ }
 {
     let ranges = [COORDINATES, COORDINATES, COORDINATES, COORDINATES];
-    match patterns::read(ARC, &ranges, text) {
-        Some([x, y, u, v]) => {
-            let via = Point { x, y };
-            let to = Point { x: u, y: v };
-            Some(JobItem::Arc { via, to })
-        }
+    match patterns::read::<4>(ARC, &ranges, text) {
+        Some(values) => Some(JobItem::Arc {
+            via: Point {
+                x: values[0],
+                y: values[1],
+            },
+            to: Point {
+                x: values[2],
+                y: values[3],
+            },
+        }),
         None => None,
     }
 }

@@ -3,6 +3,15 @@
 use kinds::Kind;
 use patterns::Range;
 use refusal::Refusal;
+ghost use mathlib.Core.Path.{_≡_};
+ghost use mathlib.Core.Bool.{true};
+ghost use mathlib.Core.List.{[], _∷_};
+ghost use Prim.Native.Nat.{ℕ};
+ghost use lib.IntN.{ℤ, pos};
+ghost use lib.Signed.{leZ};
+ghost use Rattle.std.specs.Options.{Cases as BySome};
+ghost use Rattle.patterns.specs.Pattern.{Makes, fitting};
+ghost use Rattle.items.specs.declared.setting.SettingItem.the-variants.{Tool};
 ghost use Rattle.items.specs.Setting.{setting-lawful, setting-line, setting-reading};
 
 #[derive(Clone, Copy, PartialEq, Eq, Debug)]
@@ -76,18 +85,40 @@ pub impl Kind for Setting as SettingKind {
     }
 
     fn read(text: &[u8]) -> Option<SettingItem> {
-        if let Some([value]) = patterns::read(SPEED, &[SPEEDS], text) {
-            return Some(SettingItem::Speed(value as u16));
+        if let Some(value) = read_lone(SPEED, SPEEDS, text) {
+            return Some(SettingItem::Speed(value));
         }
-        if let Some([value]) = patterns::read(PRESS, &[PRESSURES], text) {
-            return Some(SettingItem::Press(value as u16));
+        if let Some(value) = read_lone(PRESS, PRESSURES, text) {
+            return Some(SettingItem::Press(value));
         }
-        if let Some([number, offset]) = patterns::read(TOOL, &[TOOL_NUMBERS, OFFSETS], text) {
-            return Some(SettingItem::Tool {
-                number: number as u16,
-                offset,
-            });
+        if let Some(item) = read_tool(text) {
+            return Some(item);
         }
         None
+    }
+}
+
+// The number of a line of a pattern that has no other; nothing exactly where
+// there is none, if the pattern has just that one.
+fn read_lone(pattern: &[u8], range: Range, text: &[u8]) -> Option<u16>
+    requires { ⌜ leZ (pos 0) (range .low) ≡ true ⌝ ∗ ⌜ leZ (range .high) (pos 65535) ≡ true ⌝ }
+    ensures { λ r. ⌜ BySome r (fitting (now (pattern .entry)) (range ∷ []) ≡ true → (n : ℕ) → Makes (now (pattern .entry)) (range ∷ []) (now (text .entry)) (pos n ∷ []) → ⊥) (λ n. Makes (now (pattern .entry)) (range ∷ []) (now (text .entry)) (pos n ∷ [])) ⌝ }
+{
+    match patterns::read::<1>(pattern, &[range], text) {
+        Some(values) => Some(values[0] as u16),
+        None => None,
+    }
+}
+
+// The tool of a line; nothing exactly where there is none.
+fn read_tool(text: &[u8]) -> Option<SettingItem>
+    ensures { λ r. ⌜ BySome r ((number : ℕ) (offset : ℤ) → setting-lawful (Tool number offset) ≡ true → setting-line (Tool number offset) ≡ now (text .entry) → ⊥) (λ item. (setting-lawful item ≡ true) × (setting-line item ≡ now (text .entry))) ⌝ }
+{
+    match patterns::read::<2>(TOOL, &[TOOL_NUMBERS, OFFSETS], text) {
+        Some(values) => Some(SettingItem::Tool {
+            number: values[0] as u16,
+            offset: values[1],
+        }),
+        None => None,
     }
 }

@@ -27,15 +27,18 @@ digit-figure b d = or-right (eqb b 45) (leb 48 b && leb b 57) (and-from (leb 48 
 -- the parts of a fitting pattern
 pub fitting-number : (b : ℕ) (p : List ℕ) (rs : List Range) → b ≡ 35 → fitting (b ∷ p) rs ≡ true → (0 < length rs) × (getD p 0 0 ≡ 35 → ⊥) × (fitting p (drop 1 rs) ≡ true)
 fitting-number b p rs e f =
-    let g = sym (cond-true (eqb b 35) _ _ (eq-eqb b 35 e)) ∙ f in
-    let q = and-parts (ltb 0 (length rs)) (not (eqb (getD p 0 0) 35) && fitting p (drop 1 rs)) g in
-    let s = and-parts (not (eqb (getD p 0 0) 35)) (fitting p (drop 1 rs)) (q .1) in
-    (ltb-true 0 (length rs) (q .0), eqb-false (getD p 0 0) 35 (not-true (eqb (getD p 0 0) 35) (s .0)), s .1)
+    let t = eq-eqb b 35 e in
+    let first = ltb 0 (length rs) && not (eqb (getD p 0 0) 35) in
+    let q = and-parts (cond (eqb b 35) first (not (figure b))) (fitting p (cond (eqb b 35) (drop 1 rs) rs)) f in
+    let s = and-parts (ltb 0 (length rs)) (not (eqb (getD p 0 0) 35)) (sym (cond-true (eqb b 35) first (not (figure b)) t) ∙ q .0) in
+    (ltb-true 0 (length rs) (s .0), eqb-false (getD p 0 0) 35 (not-true (eqb (getD p 0 0) 35) (s .1)), ap (fitting p) (sym (cond-true (eqb b 35) (drop 1 rs) rs t)) ∙ q .1)
 
 pub fitting-byte : (b : ℕ) (p : List ℕ) (rs : List Range) → (b ≡ 35 → ⊥) → fitting (b ∷ p) rs ≡ true → (figure b ≡ false) × (fitting p rs ≡ true)
 fitting-byte b p rs e f =
-    let q = and-parts (not (figure b)) (fitting p rs) (sym (cond-false (eqb b 35) _ _ (ne-eqb b 35 e)) ∙ f) in
-    (not-true (figure b) (q .0), q .1)
+    let t = ne-eqb b 35 e in
+    let first = ltb 0 (length rs) && not (eqb (getD p 0 0) 35) in
+    let q = and-parts (cond (eqb b 35) first (not (figure b))) (fitting p (cond (eqb b 35) (drop 1 rs) rs)) f in
+    (not-true (figure b) (sym (cond-false (eqb b 35) first (not (figure b)) t) ∙ q .0), ap (fitting p) (sym (cond-false (eqb b 35) (drop 1 rs) rs t)) ∙ q .1)
 
 -- no digit follows a number
 spelt-ends : (p : List ℕ) (rs : List Range) (vs : List ℤ) → (getD p 0 0 ≡ 35 → ⊥) → fitting p rs ≡ true → Digit (getD (spelt p vs) 0 0) → ⊥

@@ -62,6 +62,7 @@ numbers-run run (b ∷ t) l a = cond-true (figure b) _ _ (a .0) ∙ numbers-run 
 
 -- a number ends where a pattern goes on with another byte
 after-run : (run p : List ℕ) (rs : List Range) (vs : List ℤ) → (getD p 0 0 ≡ 35 → ⊥) → fitting p rs ≡ true → numbers-from run (spelt p vs) ≡ add-number run (numbers (spelt p vs))
+unfolding numbers
 after-run run [] rs vs e f = refl
 after-run run (b ∷ p) rs vs e f =
     let no′ = fitting-byte b p rs e f .0 in
@@ -71,6 +72,7 @@ abbrev Found-again : List ℕ → Type 0
 Found-again p = (qs : List Range) (ws : List ℤ) → fitting p qs ≡ true → in-ranges qs ws ≡ true → numbers (spelt p ws) ≡ ws
 
 pub numbers-spelt : (p : List ℕ) (rs : List Range) (vs : List ℤ) → fitting p rs ≡ true → in-ranges rs vs ≡ true → numbers (spelt p vs) ≡ vs
+unfolding numbers
 numbers-spelt [] [] [] f h = refl
 numbers-spelt [] [] (v ∷ vs) f h = absurd (false≢true h)
 numbers-spelt [] (r ∷ rs) vs f h = absurd (omega (arith, eqb-true (length (r ∷ rs)) 0 f))

@@ -1,5 +1,5 @@
 -- The line that a pattern and values make, byte by byte of the pattern.
-use mathlib.Core.Path.{_≡_, refl, sym, ap, subst, _∙_}
+use mathlib.Core.Path.{_≡_, refl, sym, ap, ap₂, subst, _∙_}
 use mathlib.Core.Bool.{Bool, true, false, cond, _&&_}
 use mathlib.Core.Logic.{_⊎_, inl, inr, ⊎-elim}
 use mathlib.Core.List.{List, [], _∷_, _++_}
@@ -14,7 +14,7 @@ use Rattle.std.specs.declared.option.Option.{Option}
 use Rattle.std.specs.declared.option.Option.the-variants.{Some, None}
 use Rattle.std.specs.shelf.Lists.{All}
 use Rattle.std.proofs.shelf.Lists.{drop-more, drop-all, drop-drop, getD-default}
-use Rattle.std.proofs.shelf.Tests.{cond-true, cond-false, eq-eqb, ne-eqb, and-parts, ltb-true, cases-bool, false≢true}
+use Rattle.std.proofs.shelf.Tests.{cond-true, cond-false, eq-eqb, ne-eqb, and-parts, ltb-true, cases-bool, cases-eq, false≢true}
 use Rattle.shape.specs.Decimal.{digits, InRange, MeasuresNumber, WritesNumber}
 use Rattle.shape.specs.Limits.{bound}
 use Rattle.kinds.proofs.Overwrite.{Over, over-room}
@@ -22,10 +22,10 @@ use Rattle.patterns.specs.declared.Range.{Range}
 use Rattle.patterns.specs.Pattern.{first-digits, spelt, within, in-ranges, AllInRange, FitsRoom}
 
 pub spelt-number : (b : ℕ) (p : List ℕ) (vs : List ℤ) → b ≡ 35 → spelt (b ∷ p) vs ≡ first-digits vs ++ spelt p (drop 1 vs)
-spelt-number b p vs e = cond-true (eqb b 35) _ _ (eq-eqb b 35 e)
+spelt-number b p vs e = let t = eq-eqb b 35 e in ap₂ (λ x y. x ++ spelt p y) (cond-true (eqb b 35) (first-digits vs) (b ∷ []) t) (cond-true (eqb b 35) (drop 1 vs) vs t)
 
 pub spelt-byte : (b : ℕ) (p : List ℕ) (vs : List ℤ) → (b ≡ 35 → ⊥) → spelt (b ∷ p) vs ≡ b ∷ spelt p vs
-spelt-byte b p vs e = cond-false (eqb b 35) _ _ (ne-eqb b 35 e)
+spelt-byte b p vs e = let t = ne-eqb b 35 e in ap₂ (λ x y. x ++ spelt p y) (cond-false (eqb b 35) (first-digits vs) (b ∷ []) t) (cond-false (eqb b 35) (drop 1 vs) vs t)
 
 module _ (p : List ℕ) (vs : List ℤ) (i next : ℕ) where
   pub next-number : i < length p → getD p i 0 ≡ 35 → spelt (drop i p) (drop next vs) ≡ first-digits (drop next vs) ++ spelt (drop (i + 1) p) (drop (next + 1) vs)
@@ -119,3 +119,32 @@ module _ (p : List ℕ) (vs : List ℤ) (before out : List ℕ) (at i next : ℕ
 
   pub byte-room : length (spelt p vs) ≤ length before → (getD p i 0 ≡ 35 → ⊥) → at < length out
   byte-room room e = omega (arith, over-room (spelt p vs) before out at (getD p i 0 ∷ []) (spelt (drop (i + 1) p) (drop next vs)) room (byte-comes e))
+
+-- How long a line can be: so many bytes for each number, and one for each other byte.
+abbrev pub width : List ℕ → List ℕ → ℕ
+width [] ks = 0
+width (b ∷ p) ks = cond (eqb b 35) (getD ks 0 0) 1 + width p (cond (eqb b 35) (drop 1 ks) ks)
+
+abbrev pub Short : List ℤ → List ℕ → Type 0
+Short [] ks = Unit {0}
+Short (v ∷ vs) ks = (length (digits v) ≤ getD ks 0 0) × Short vs (drop 1 ks)
+
+short-first : (vs : List ℤ) (ks : List ℕ) → Short vs ks → (length (first-digits vs) ≤ getD ks 0 0) × Short (drop 1 vs) (drop 1 ks)
+short-first [] ks s = (omega arith, tt)
+short-first (v ∷ vs) ks s = s
+
+pub spelt-width : (p : List ℕ) (vs : List ℤ) (ks : List ℕ) → Short vs ks → length (spelt p vs) ≤ width p ks
+spelt-width [] vs ks s = omega arith
+spelt-width (b ∷ p) vs ks s = ⊎-elim (λ e. number e (spelt-width p (drop 1 vs) (drop 1 ks) (short-first vs ks s .1))) (λ e. byte e (spelt-width p vs ks s)) (cases-eq b 35)
+  where
+    number : b ≡ 35 → length (spelt p (drop 1 vs)) ≤ width p (drop 1 ks) → length (spelt (b ∷ p) vs) ≤ width (b ∷ p) ks
+    number e h =
+        let t = eq-eqb b 35 e in
+        let w : width (b ∷ p) ks ≡ getD ks 0 0 + width p (drop 1 ks) = ap₂ (λ x y. x + width p y) (cond-true (eqb b 35) (getD ks 0 0) 1 t) (cond-true (eqb b 35) (drop 1 ks) ks t) in
+        omega (arith, w, ap length (spelt-number b p vs e), length-append (first-digits vs) (spelt p (drop 1 vs)), short-first vs ks s .0)
+
+    byte : (b ≡ 35 → ⊥) → length (spelt p vs) ≤ width p ks → length (spelt (b ∷ p) vs) ≤ width (b ∷ p) ks
+    byte e h =
+        let t = ne-eqb b 35 e in
+        let w : width (b ∷ p) ks ≡ 1 + width p ks = ap₂ (λ x y. x + width p y) (cond-false (eqb b 35) (getD ks 0 0) 1 t) (cond-false (eqb b 35) (drop 1 ks) ks t) in
+        omega (arith, w, ap length (spelt-byte b p vs e))

@@ -39,7 +39,7 @@ abbrev pub numbers-from : List ℕ → List ℕ → List ℤ
 numbers-from run [] = add-number run []
 numbers-from run (b ∷ l) = cond (figure b) (numbers-from (run ++ b ∷ []) l) (add-number run (numbers-from [] l))
 
-abbrev pub numbers : List ℕ → List ℤ
+unfoldable pub numbers : List ℕ → List ℤ
 numbers l = numbers-from [] l
 
 -- the item, if it is lawful and has this line

@@ -22,7 +22,7 @@ first-digits (v ∷ vs) = digits v
 -- The line that a pattern and values make: the digits of the values, in their order, in the places of the "#" (35).
 abbrev pub spelt : List ℕ → List ℤ → List ℕ
 spelt [] vs = []
-spelt (b ∷ p) vs = cond (eqb b 35) (first-digits vs ++ spelt p (drop 1 vs)) (b ∷ spelt p vs)
+spelt (b ∷ p) vs = cond (eqb b 35) (first-digits vs) (b ∷ []) ++ spelt p (cond (eqb b 35) (drop 1 vs) vs)
 
 -- a value in its range, and one that lines can hold
 abbrev pub within : Range → ℤ → Bool
@@ -46,7 +46,7 @@ figure b = eqb b 45 || (leb 48 b && leb b 57)
 -- A pattern that fits its ranges: one "#" for each, no two side by side, and none of the bytes that numbers are written with.
 abbrev pub fitting : List ℕ → List Range → Bool
 fitting [] rs = eqb (length rs) 0
-fitting (b ∷ p) rs = cond (eqb b 35) (ltb 0 (length rs) && (not (eqb (getD p 0 0) 35) && fitting p (drop 1 rs))) (not (figure b) && fitting p rs)
+fitting (b ∷ p) rs = cond (eqb b 35) (ltb 0 (length rs) && not (eqb (getD p 0 0) 35)) (not (figure b)) && fitting p (cond (eqb b 35) (drop 1 rs) rs)
 
 -- Reading a line by a pattern: the values that make it, nothing exactly where none do.
 abbrev pub ReadsPattern : List ℕ → List Range → List ℕ → Option (List ℤ) → Type 0
