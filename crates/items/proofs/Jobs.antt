@@ -5,6 +5,7 @@ use mathlib.Core.List.{List, [], _∷_, _++_, append-assoc}
 use Prim.Native.Nat.{ℕ, _-_, _+_, _<_, _≤_}
 use native.Mathlib.Omega.{arith}
 use lib.Chars.{codes}
+use lib.Dec.{leb}
 use lib.IntN.{ℤ, pos}
 use lib.ListN.{length, length-append}
 use Rattle.std.specs.declared.option.Option.{Option}
@@ -12,14 +13,14 @@ use Rattle.std.specs.declared.option.Option.the-variants.{Some, None}
 use Rattle.shape.specs.Decimal.{digits, InRange}
 use Rattle.shape.specs.Form.{Form, Args, form, none, number, inner, written, Word, Shaped, ShapedArgs, WellShaped}
 use Rattle.shape.proofs.Signs.{digits-number, length-digits}
-use Rattle.patterns.specs.Pattern.{spelt, AllInRange}
+use Rattle.patterns.specs.Pattern.{spelt, AllInRange, Makes}
 use Rattle.patterns.specs.Finding.{word, numbers}
-use Rattle.patterns.proofs.Numbers.{numbers-spelt, having-found, having-sound}
-use Rattle.patterns.proofs.Spell.{in-ranges-all, width, spelt-width}
+use Rattle.patterns.proofs.Numbers.{numbers-spelt, having-found, having-sound, found-answer, none-answer}
+use Rattle.patterns.proofs.Spell.{in-ranges-all, width, spelt-within}
 use Rattle.items.specs.declared.job.Point.{Point}
 use Rattle.items.specs.declared.job.JobItem.{JobItem}
 use Rattle.items.specs.declared.job.JobItem.the-variants.{Panel, Move, Cut, Mark, Arc, End}
-use Rattle.items.specs.Job.{job-pattern, job-values, job-ranges, job-lawful, job-line, job-named, job-reading}
+use Rattle.items.specs.Job.{job-pattern, job-values, job-ranges, job-lawful, job-line, job-named, job-reading, coordinates}
 use Rattle.items.proofs.Values.{word-from}
 
 -- a form with one number, and the two that make a point
@@ -77,18 +78,18 @@ job-shaped (Arc v t) h =
 job-shaped End h = (form (codes "end") none, (omega arith, word-from (codes "end") (omega arith) (omega arith) refl, tt), refl)
 
 -- no number has more than seven bytes
-point-width : (q : List ℕ) (p : Point) → AllInRange (p .x ∷ p .y ∷ []) → length (spelt q (p .x ∷ p .y ∷ [])) ≤ width q (7 ∷ 7 ∷ [])
-point-width q p a = spelt-width q (p .x ∷ p .y ∷ []) (7 ∷ 7 ∷ []) (length-digits (p .x) (a .0), (length-digits (p .y) (a .1 .0), tt))
+point-width : (q : List ℕ) (p : Point) → AllInRange (p .x ∷ p .y ∷ []) → leb (width q (7 ∷ 7 ∷ [])) 65 ≡ true → length (spelt q (p .x ∷ p .y ∷ [])) ≤ 65
+point-width q p a h = spelt-within q (p .x ∷ p .y ∷ []) (7 ∷ 7 ∷ []) 65 (length-digits (p .x) (a .0), (length-digits (p .y) (a .1 .0), tt)) h
 
 pub job-bounded : (x : JobItem) → job-lawful x ≡ true → length (job-line x) ≤ 65
-job-bounded (Panel n c) h = let a = values-of (Panel n c) h in omega (arith, spelt-width (job-pattern (Panel n c)) (pos n ∷ pos c ∷ []) (7 ∷ 7 ∷ []) (length-digits (pos n) (a .0), (length-digits (pos c) (a .1 .0), tt)))
-job-bounded (Move p) h = omega (arith, point-width (job-pattern (Move p)) p (values-of (Move p) h))
-job-bounded (Cut p) h = omega (arith, point-width (job-pattern (Cut p)) p (values-of (Cut p) h))
-job-bounded (Mark p) h = omega (arith, point-width (job-pattern (Mark p)) p (values-of (Mark p) h))
+job-bounded (Panel n c) h = let a = values-of (Panel n c) h in spelt-within (job-pattern (Panel n c)) (pos n ∷ pos c ∷ []) (7 ∷ 7 ∷ []) 65 (length-digits (pos n) (a .0), (length-digits (pos c) (a .1 .0), tt)) refl
+job-bounded (Move p) h = point-width (job-pattern (Move p)) p (values-of (Move p) h) refl
+job-bounded (Cut p) h = point-width (job-pattern (Cut p)) p (values-of (Cut p) h) refl
+job-bounded (Mark p) h = point-width (job-pattern (Mark p)) p (values-of (Mark p) h) refl
 job-bounded (Arc v t) h =
     let a = values-of (Arc v t) h in
-    omega (arith, spelt-width (job-pattern (Arc v t)) (job-values (Arc v t)) (7 ∷ 7 ∷ 7 ∷ 7 ∷ []) (length-digits (v .x) (a .0), (length-digits (v .y) (a .1 .0), (length-digits (t .x) (a .1 .1 .0), (length-digits (t .y) (a .1 .1 .1 .0), tt)))))
-job-bounded End h = omega arith
+    spelt-within (job-pattern (Arc v t)) (job-values (Arc v t)) (7 ∷ 7 ∷ 7 ∷ 7 ∷ []) 65 (length-digits (v .x) (a .0), (length-digits (v .y) (a .1 .0), (length-digits (t .x) (a .1 .1 .0), (length-digits (t .y) (a .1 .1 .1 .0), tt)))) refl
+job-bounded End h = spelt-within (job-pattern End) [] [] 65 tt refl
 
 -- the word and the numbers of a line name its item
 named : (x : JobItem) → job-lawful x ≡ true → job-named (word (job-line x)) (numbers (job-line x)) ≡ Some x
@@ -104,3 +105,22 @@ job-found x h = having-found job-lawful job-line (job-named (word (job-line x)) 
 
 pub job-sound : (l : List ℕ) (x : JobItem) → job-reading l ≡ Some x → (job-lawful x ≡ true) × (job-line x ≡ l)
 job-sound l x e = having-sound job-lawful job-line l (job-named (word l) (numbers l)) x e
+
+-- what the reader answers
+pub job-answer : (l : List ℕ) (x : JobItem) → (job-lawful x ≡ true) × (job-line x ≡ l) → Some x ≡ job-reading l
+job-answer l x p = found-answer job-lawful job-line job-reading job-found l x (p .0) (p .1)
+
+-- no line of this pattern with a point
+abbrev pub NoPoint : List ℕ → List ℕ → Type 0
+NoPoint q l = (p : Point) → Makes q (coordinates ∷ coordinates ∷ []) l (p .x ∷ p .y ∷ []) → ⊥
+
+pub no-job : (l : List ℕ) → ((n c : ℕ) → job-lawful (Panel n c) ≡ true → job-line (Panel n c) ≡ l → ⊥) → NoPoint (codes "(move (x #) (y #))\n") l → NoPoint (codes "(cut (x #) (y #))\n") l → NoPoint (codes "(mark (x #) (y #))\n") l → ((v t : Point) → job-lawful (Arc v t) ≡ true → job-line (Arc v t) ≡ l → ⊥) → (l ≡ codes "(end)\n" → ⊥) → None ≡ job-reading l
+no-job l panel move cut mark arc end = none-answer job-lawful job-line job-reading job-sound l none′
+  where
+    none′ : (x : JobItem) → job-lawful x ≡ true → job-line x ≡ l → ⊥
+    none′ (Panel n c) h e = panel n c h e
+    none′ (Move p) h e = move p (h, e)
+    none′ (Cut p) h e = cut p (h, e)
+    none′ (Mark p) h e = mark p (h, e)
+    none′ (Arc v t) h e = arc v t h e
+    none′ End h e = end (sym e)

@@ -14,13 +14,14 @@ use Rattle.shape.specs.Decimal.{digits, figures, InRange}
 use Rattle.shape.specs.Form.{form, none, number, inner, written, Word, WellShaped}
 use Rattle.shape.proofs.Figures.{length-figures}
 use Rattle.shape.proofs.Signs.{digits-number, length-digits}
-use Rattle.patterns.specs.Pattern.{AllInRange}
+use Rattle.patterns.specs.Pattern.{within, AllInRange, Makes}
+use Rattle.patterns.specs.declared.Range.{Range}
 use Rattle.patterns.specs.Finding.{word, numbers}
-use Rattle.patterns.proofs.Numbers.{numbers-spelt, having-found, having-sound}
-use Rattle.patterns.proofs.Spell.{in-ranges-all, spelt-width}
+use Rattle.patterns.proofs.Numbers.{numbers-spelt, having-found, having-sound, found-answer, none-answer}
+use Rattle.patterns.proofs.Spell.{in-ranges-all, spelt-within, within-in-range}
 use Rattle.items.specs.declared.setting.SettingItem.{SettingItem}
 use Rattle.items.specs.declared.setting.SettingItem.the-variants.{Speed, Press, Tool}
-use Rattle.items.specs.Setting.{setting-pattern, setting-values, setting-ranges, setting-lawful, setting-line, setting-named, setting-reading, tool-numbers, offsets}
+use Rattle.items.specs.Setting.{setting-pattern, setting-values, setting-ranges, setting-lawful, setting-line, setting-named, setting-reading, tool-numbers, offsets, speeds, pressures}
 use Rattle.items.proofs.Values.{value-first, whole-number, at-most, word-from, short-digits, near-zero}
 
 -- how the lines are written, for any digits
@@ -46,17 +47,21 @@ setting-shaped (Tool n o) h =
      (omega arith, word-from (codes "tool") (omega arith) (omega arith) refl, (digits-number (pos n) (a .0), ((omega arith, word-from (codes "offset") (omega arith) (omega arith) refl, (digits-number o (a .1 .0), tt)), tt))),
      tool-written (digits (pos n)) (digits o))
 
+tool-short : (n : ℕ) → within tool-numbers (pos n) ≡ true → length (digits (pos n)) ≤ 1
+tool-short n w = length-figures 1 n (omega arith) (omega (arith, at-most (pos n) 8 refl (whole-number tool-numbers (pos n) refl w .1))) (omega (arith, at-most (pos n) 8 refl (whole-number tool-numbers (pos n) refl w .1)))
+
+offset-short : (o : ℤ) → within offsets o ≡ true → length (digits o) ≤ 4
+offset-short o w =
+    let small : natAbs o ≤ 999 = ⊎-elim (λ l. l) (λ l. l) (near-zero 998 999 o w) in
+    short-digits 3 o (omega arith) (omega arith) (within-in-range offsets o w)
+
 pub setting-bounded : (x : SettingItem) → setting-lawful x ≡ true → length (setting-line x) ≤ 23
-setting-bounded (Speed v) h = omega (arith, spelt-width (setting-pattern (Speed v)) (pos v ∷ []) (7 ∷ []) (length-digits (pos v) (values-of (Speed v) h .0), tt))
-setting-bounded (Press v) h = omega (arith, spelt-width (setting-pattern (Press v)) (pos v ∷ []) (7 ∷ []) (length-digits (pos v) (values-of (Press v) h .0), tt))
+setting-bounded (Speed v) h = spelt-within (setting-pattern (Speed v)) (pos v ∷ []) (7 ∷ []) 23 (length-digits (pos v) (values-of (Speed v) h .0), tt) refl
+setting-bounded (Press v) h = spelt-within (setting-pattern (Press v)) (pos v ∷ []) (7 ∷ []) 23 (length-digits (pos v) (values-of (Press v) h .0), tt) refl
 setting-bounded (Tool n o) h =
     let a = values-of (Tool n o) h in
     let q = value-first tool-numbers (offsets ∷ []) (pos n) (o ∷ []) h in
-    let w = whole-number tool-numbers (pos n) refl (q .0) in
-    let small : natAbs o ≤ 999 → natAbs o < 1000 = λ l. omega arith in
-    let k = length-figures 1 n (omega arith) (omega (arith, at-most (pos n) 8 refl (w .1))) (omega (arith, a .0)) in
-    let j = short-digits 3 o (omega arith) (⊎-elim (λ (l : natAbs o ≤ 999). small l) (λ (l : natAbs o ≤ 999). small l) (near-zero 998 999 o (value-first offsets [] o [] (q .1) .0))) (a .1 .0) in
-    omega (arith, spelt-width (setting-pattern (Tool n o)) (pos n ∷ o ∷ []) (1 ∷ 4 ∷ []) (k, (j, tt)))
+    spelt-within (setting-pattern (Tool n o)) (pos n ∷ o ∷ []) (1 ∷ 4 ∷ []) 23 (tool-short n (q .0), (offset-short o (value-first offsets [] o [] (q .1) .0), tt)) refl
 
 -- the word and the numbers of a line name its item
 named : (x : SettingItem) → setting-lawful x ≡ true → setting-named (word (setting-line x)) (numbers (setting-line x)) ≡ Some x
@@ -69,3 +74,19 @@ setting-found x h = having-found setting-lawful setting-line (setting-named (wor
 
 pub setting-sound : (l : List ℕ) (x : SettingItem) → setting-reading l ≡ Some x → (setting-lawful x ≡ true) × (setting-line x ≡ l)
 setting-sound l x e = having-sound setting-lawful setting-line l (setting-named (word l) (numbers l)) x e
+
+-- what the reader answers
+pub setting-answer : (l : List ℕ) (x : SettingItem) → (setting-lawful x ≡ true) × (setting-line x ≡ l) → Some x ≡ setting-reading l
+setting-answer l x p = found-answer setting-lawful setting-line setting-reading setting-found l x (p .0) (p .1)
+
+-- no line of this pattern with one number
+abbrev pub NoLone : List ℕ → Range → List ℕ → Type 0
+NoLone q r l = (n : ℕ) → Makes q (r ∷ []) l (pos n ∷ []) → ⊥
+
+pub no-setting : (l : List ℕ) → NoLone (codes "(speed #)\n") speeds l → NoLone (codes "(press #)\n") pressures l → ((n : ℕ) (o : ℤ) → setting-lawful (Tool n o) ≡ true → setting-line (Tool n o) ≡ l → ⊥) → None ≡ setting-reading l
+no-setting l speed press tool = none-answer setting-lawful setting-line setting-reading setting-sound l none′
+  where
+    none′ : (x : SettingItem) → setting-lawful x ≡ true → setting-line x ≡ l → ⊥
+    none′ (Speed v) h e = speed v (h, e)
+    none′ (Press v) h e = press v (h, e)
+    none′ (Tool n o) h e = tool n o h e

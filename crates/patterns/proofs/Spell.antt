@@ -5,7 +5,7 @@ use mathlib.Core.Logic.{_⊎_, inl, inr, ⊎-elim}
 use mathlib.Core.List.{List, [], _∷_, _++_}
 use Prim.Native.Nat.{ℕ, zero, suc, _+_, _-_, _<_, _≤_}
 use native.Mathlib.Omega.{arith}
-use lib.Dec.{eqb, ltb}
+use lib.Dec.{eqb, leb, ltb}
 use lib.IntN.{ℤ, pos, natAbs}
 use lib.ListN.{length, getD, take, drop, length-append}
 use lib.Signed.{leZ}
@@ -14,7 +14,7 @@ use Rattle.std.specs.declared.option.Option.{Option}
 use Rattle.std.specs.declared.option.Option.the-variants.{Some, None}
 use Rattle.std.specs.shelf.Lists.{All}
 use Rattle.std.proofs.shelf.Lists.{drop-more, drop-all, drop-drop, getD-default}
-use Rattle.std.proofs.shelf.Tests.{cond-true, cond-false, eq-eqb, ne-eqb, and-parts, ltb-true, cases-bool, cases-eq, false≢true}
+use Rattle.std.proofs.shelf.Tests.{cond-true, cond-false, eq-eqb, ne-eqb, and-parts, ltb-true, leb-true, cases-bool, cases-eq, false≢true}
 use Rattle.shape.specs.Decimal.{digits, InRange, MeasuresNumber, WritesNumber}
 use Rattle.shape.specs.Limits.{bound}
 use Rattle.kinds.proofs.Overwrite.{Over, over-room}
@@ -148,3 +148,6 @@ spelt-width (b ∷ p) vs ks s = ⊎-elim (λ e. number e (spelt-width p (drop 1 
         let t = ne-eqb b 35 e in
         let w : width (b ∷ p) ks ≡ 1 + width p ks = ap₂ (λ x y. x + width p y) (cond-false (eqb b 35) (getD ks 0 0) 1 t) (cond-false (eqb b 35) (drop 1 ks) ks t) in
         omega (arith, w, ap length (spelt-byte b p vs e))
+
+pub spelt-within : (p : List ℕ) (vs : List ℤ) (ks : List ℕ) (most : ℕ) → Short vs ks → leb (width p ks) most ≡ true → length (spelt p vs) ≤ most
+spelt-within p vs ks most s h = omega (arith, spelt-width p vs ks s, leb-true (width p ks) most h)
