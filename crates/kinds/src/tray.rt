@@ -37,14 +37,7 @@ impl<'a, T: Copy> Tray<'a, T> {
     pub fn len(&self) -> usize
         ensures { λ r. ⌜ r ≡ length (held (now (self .entry))) ⌝ }
     {
-        filled(self.items, self.count).len()
-    }
-
-    // How many items it can hold.
-    pub fn room(&self) -> usize
-        ensures { λ r. ⌜ r ≡ length (now (now (self .entry) .items)) ⌝ }
-    {
-        self.items.len()
+        self.as_slice().len()
     }
 
     // The items that it holds.
@@ -58,7 +51,7 @@ impl<'a, T: Copy> Tray<'a, T> {
     pub fn get(&self, index: usize) -> Option<T>
         ensures { λ r. ⌜ r ≡ nth (held (now (self .entry))) index ⌝ }
     {
-        let items = filled(self.items, self.count);
+        let items = self.as_slice();
         if index < items.len() {
             Some(items[index])
         } else {
