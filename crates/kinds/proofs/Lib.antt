@@ -1,0 +1,5 @@
+pub mod Cut
+pub mod Sheets
+pub mod Measured
+pub mod Overwrite
+pub mod Along

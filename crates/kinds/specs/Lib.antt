@@ -1,0 +1,4 @@
+pub mod Limits
+pub mod Kind
+pub mod Text
+pub mod Held
