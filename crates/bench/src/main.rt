@@ -39,12 +39,7 @@ fn one_sealing(
 }
 
 // The best of some sealings of a text of that length, in bytes per second.
-fn measure_sealing(
-    rt: &LibcRuntime,
-    suite: u32,
-    bytes: u32,
-    runs: u32,
-) -> Result<u128, AnyError> {
+fn measure_sealing(rt: &LibcRuntime, suite: u32, bytes: u32, runs: u32) -> Result<u128, AnyError> {
     let text = vec![in rt.alloc(); 3u8; bytes as usize]?;
     let mut out = vec![in rt.alloc(); 0u8; bytes as usize]?;
     let mut siv = vec![in rt.alloc(); 0u8; 32]?;

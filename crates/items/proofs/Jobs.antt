@@ -61,20 +61,27 @@ values-of x h = in-ranges-all (job-ranges x) (job-values x) h .0
 
 pub job-shaped : (x : JobItem) → job-lawful x ≡ true → WellShaped (job-line x)
 job-shaped (Panel n c) h =
-    let a = values-of (Panel n c) h in
-    (form (codes "panel") (number (digits (pos n)) (inner (single (codes "cloth") (pos c)) none)),
-     (omega arith, word-from (codes "panel") (omega arith) (omega arith) refl, (digits-number (pos n) (a .0), (single-shaped 3 (codes "cloth") (pos c) (omega arith) (word-from (codes "cloth") (omega arith) (omega arith) refl) (a .1 .0), tt))),
-     panel-written (digits (pos n)) (digits (pos c)))
+    let a = values-of (Panel n c) h in (
+      form (codes "panel") (number (digits (pos n)) (inner (single (codes "cloth") (pos c)) none)),
+      (omega arith, word-from (codes "panel") (omega arith) (omega arith) refl, (digits-number (pos n) (a .0), (single-shaped 3 (codes "cloth") (pos c) (omega arith) (word-from (codes "cloth") (omega arith) (omega arith) refl) (a .1 .0), tt))),
+      panel-written (digits (pos n)) (digits (pos c)),
+    )
 job-shaped (Move p) h = point-line (codes "move") p (job-line (Move p)) (word-from (codes "move") (omega arith) (omega arith) refl) (values-of (Move p) h) refl
 job-shaped (Cut p) h = point-line (codes "cut") p (job-line (Cut p)) (word-from (codes "cut") (omega arith) (omega arith) refl) (values-of (Cut p) h) refl
 job-shaped (Mark p) h = point-line (codes "mark") p (job-line (Mark p)) (word-from (codes "mark") (omega arith) (omega arith) refl) (values-of (Mark p) h) refl
 job-shaped (Arc v t) h =
-    let a = values-of (Arc v t) h in
-    (form (codes "arc") (inner (form (codes "via") (point-args v)) (inner (form (codes "to") (point-args t)) none)),
-     (omega arith, word-from (codes "arc") (omega arith) (omega arith) refl, (
-       (omega arith, word-from (codes "via") (omega arith) (omega arith) refl, point-shaped 2 v (omega arith) (a .0) (a .1 .0)),
-       ((omega arith, word-from (codes "to") (omega arith) (omega arith) refl, point-shaped 2 t (omega arith) (a .1 .1 .0) (a .1 .1 .1 .0)), tt))),
-     arc-written (digits (v .x)) (digits (v .y)) (digits (t .x)) (digits (t .y)))
+    let a = values-of (Arc v t) h in (
+      form (codes "arc") (inner (form (codes "via") (point-args v)) (inner (form (codes "to") (point-args t)) none)),
+      (
+        omega arith,
+        word-from (codes "arc") (omega arith) (omega arith) refl,
+        (
+          (omega arith, word-from (codes "via") (omega arith) (omega arith) refl, point-shaped 2 v (omega arith) (a .0) (a .1 .0)),
+          ((omega arith, word-from (codes "to") (omega arith) (omega arith) refl, point-shaped 2 t (omega arith) (a .1 .1 .0) (a .1 .1 .1 .0)), tt),
+        ),
+      ),
+      arc-written (digits (v .x)) (digits (v .y)) (digits (t .x)) (digits (t .y)),
+    )
 job-shaped End h = (form (codes "end") none, (omega arith, word-from (codes "end") (omega arith) (omega arith) refl, tt), refl)
 
 -- no number has more than seven bytes

@@ -42,10 +42,11 @@ pub setting-shaped : (x : SettingItem) → setting-lawful x ≡ true → WellSha
 setting-shaped (Speed v) h = lone-line (codes "speed") (pos v) (setting-line (Speed v)) (word-from (codes "speed") (omega arith) (omega arith) refl) (values-of (Speed v) h .0) refl
 setting-shaped (Press v) h = lone-line (codes "press") (pos v) (setting-line (Press v)) (word-from (codes "press") (omega arith) (omega arith) refl) (values-of (Press v) h .0) refl
 setting-shaped (Tool n o) h =
-    let a = values-of (Tool n o) h in
-    (form (codes "tool") (number (digits (pos n)) (inner (form (codes "offset") (number (digits o) none)) none)),
-     (omega arith, word-from (codes "tool") (omega arith) (omega arith) refl, (digits-number (pos n) (a .0), ((omega arith, word-from (codes "offset") (omega arith) (omega arith) refl, (digits-number o (a .1 .0), tt)), tt))),
-     tool-written (digits (pos n)) (digits o))
+    let a = values-of (Tool n o) h in (
+      form (codes "tool") (number (digits (pos n)) (inner (form (codes "offset") (number (digits o) none)) none)),
+      (omega arith, word-from (codes "tool") (omega arith) (omega arith) refl, (digits-number (pos n) (a .0), ((omega arith, word-from (codes "offset") (omega arith) (omega arith) refl, (digits-number o (a .1 .0), tt)), tt))),
+      tool-written (digits (pos n)) (digits o),
+    )
 
 tool-short : (n : ℕ) → within tool-numbers (pos n) ≡ true → length (digits (pos n)) ≤ 1
 tool-short n w = length-figures 1 n (omega arith) (omega (arith, at-most (pos n) 8 refl (whole-number tool-numbers (pos n) refl w .1))) (omega (arith, at-most (pos n) 8 refl (whole-number tool-numbers (pos n) refl w .1)))

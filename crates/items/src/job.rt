@@ -38,14 +38,24 @@ pub enum JobItem {
 
 // a line of each sort, with a `#` for each number
 const PANEL: &[u8] = b"(panel # (cloth #))\n";
+
 const MOVE: &[u8] = b"(move (x #) (y #))\n";
+
 const CUT: &[u8] = b"(cut (x #) (y #))\n";
+
 const MARK: &[u8] = b"(mark (x #) (y #))\n";
+
 const ARC: &[u8] = b"(arc (via (x #) (y #)) (to (x #) (y #)))\n";
+
 const END: &[u8] = b"(end)\n";
 
-const PANEL_NUMBERS: Range = Range { low: 1, high: 9_999 };
+const PANEL_NUMBERS: Range = Range {
+    low: 1,
+    high: 9_999,
+};
+
 const CLOTH_NUMBERS: Range = Range { low: 1, high: 99 };
+
 const COORDINATES: Range = Range {
     low: -500_000,
     high: 500_000,

@@ -26,15 +26,20 @@ pub enum SettingItem {
 
 // a line of each sort, with a `#` for each number
 const SPEED: &[u8] = b"(speed #)\n";
+
 const PRESS: &[u8] = b"(press #)\n";
+
 const TOOL: &[u8] = b"(tool # (offset #))\n";
 
 const SPEEDS: Range = Range { low: 1, high: 999 };
+
 const PRESSURES: Range = Range {
     low: 0,
     high: 9_999,
 };
+
 const TOOL_NUMBERS: Range = Range { low: 1, high: 8 };
+
 const OFFSETS: Range = Range {
     low: -999,
     high: 999,

@@ -100,9 +100,10 @@ module _ {X : Type 0} (reading : List ℕ → Option X) (t : List ℕ) where
         let long = items-length reading (lines t) xs e in
         let y : getD xs count x ≡ x = items-at reading (lines t) xs count x e n (rw (is-line at count a l next) r) in
         let in′ : count < length xs = omega arith in
-        let p = f xs e in
-        (take-more-set now count x room ∙ ap (λ z. z ++ x ∷ []) (p .0) ∙ ap (λ z. take count xs ++ z ∷ []) (sym y) ∙ sym (take-more xs count x in′),
-         drop-set-lt (count + 1) now count x (omega arith) ∙ (sym (drop-drop 1 count now) ∙ ap (drop 1) (p .1) ∙ drop-drop 1 count before))
+        let p = f xs e in (
+          take-more-set now count x room ∙ ap (λ z. z ++ x ∷ []) (p .0) ∙ ap (λ z. take count xs ++ z ∷ []) (sym y) ∙ sym (take-more xs count x in′),
+          drop-set-lt (count + 1) now count x (omega arith) ∙ (sym (drop-drop 1 count now) ∙ ap (drop 1) (p .1) ∙ drop-drop 1 count before),
+        )
 
     pub filled-all : length t ≤ at → (xs : List X) → Reads reading t xs → now ≡ xs ++ drop (length xs) before
     filled-all h xs r =

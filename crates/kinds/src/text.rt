@@ -78,12 +78,18 @@ pub fn check<K: Kind>(text: &[u8]) -> Result<usize, Refusal>
     let mut count = 0;
     while at < text.len() {
         if count == MOST_ITEMS {
-            return Err(Refusal::NoSheet { line: count + 1, column: 0 });
+            return Err(Refusal::NoSheet {
+                line: count + 1,
+                column: 0,
+            });
         }
         let line = next_line(text, at);
         let Some(_) = K::read(line) else {
             let column = fault_column(line);
-            return Err(Refusal::NoSheet { line: count + 1, column });
+            return Err(Refusal::NoSheet {
+                line: count + 1,
+                column,
+            });
         };
         at += line.len();
         count += 1;

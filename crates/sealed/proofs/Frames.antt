@@ -117,12 +117,12 @@ module _ (s : List ℕ) where
               from-digits : drop (serial .end) s ≡ codes ") (siv " ++ (now (siv .digits) ++ (codes ") (text " ++ (now (text .digits) ++ (codes "))" ++ drop (text .end + n) s))))
               from-digits =
                   found-at _ _ s (serial .end) (siv .end) _ (f .0) (f .2) ∙ ap (λ z. codes ") (siv " ++ (now (siv .digits) ++ z)) (
-                    found-at _ _ s (siv .end) (text .end) _ (g .0) (g .2) ∙ ap (λ z. codes ") (text " ++ (now (text .digits) ++ z)) last)
+                  found-at _ _ s (siv .end) (text .end) _ (g .0) (g .2) ∙ ap (λ z. codes ") (text " ++ (now (text .digits) ++ z)) last)
 
               from-start : s ≡ after-serial (drop (serial .end) s)
               from-start =
                   found-at _ _ s 0 (slot .end) _ (a .0) (a .4) ∙ ap (λ z. codes "(sealed (slot " ++ (figures (slot .value) ++ z)) (
-                    found-at _ _ s (slot .end) (kind .end) _ (b .0) (b .4) ∙ ap (λ z. codes ") (kind " ++ (figures (kind .value) ++ z)) (found-at _ _ s (kind .end) (serial .end) _ (d .0) (d .4)))
+                  found-at _ _ s (slot .end) (kind .end) _ (b .0) (b .4) ∙ ap (λ z. codes ") (kind " ++ (figures (kind .value) ++ z)) (found-at _ _ s (kind .end) (serial .end) _ (d .0) (d .4)))
 
               spelt-out : s ≡ spelling made [] ++ drop (text .end + n) s
               spelt-out =

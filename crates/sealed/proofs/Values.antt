@@ -88,9 +88,10 @@ module _ (low high : ℕ) (small : low ≤ 1) (some : 1 ≤ high) (fits : high <
 
   -- where 0 is below the values, nothing begins with a zero
   pub zero-none : low ≡ 1 → 0 < length s → getD s 0 0 ≡ 48 → Token (Value low high) s (Err 0)
-  zero-none z l e =
-      (record { fits = omega arith; begins = (49 ∷ [], one-is); stops = λ h f. let x = f .1 in omega (arith, figures-first (x .0) (omega (arith, x .1)) (omega (arith, x .2)), ap (λ y. getD y 0 0) (sym (x .3)) ∙ grown-first s 0 (f .0) h ∙ e) },
-      λ x. omega (arith, figures-some (x .0) (omega (arith, x .2)), ap length (x .3)))
+  zero-none z l e = (
+    record { fits = omega arith; begins = (49 ∷ [], one-is); stops = λ h f. let x = f .1 in omega (arith, figures-first (x .0) (omega (arith, x .1)) (omega (arith, x .2)), ap (λ y. getD y 0 0) (sym (x .3)) ∙ grown-first s 0 (f .0) h ∙ e) },
+    λ x. omega (arith, figures-some (x .0) (omega (arith, x .2)), ap length (x .3)),
+  )
 
   module _ (n v : ℕ) (run : Counts high s n v) (nz : 0 < length s → getD s 0 0 ≡ 48 → ⊥) where
     long : length (take n s) ≡ n

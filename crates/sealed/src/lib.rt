@@ -16,14 +16,15 @@ pub use unchecked::SealedParts;
 pub use unchecked::Siv;
 pub use unchecked::Unchecked;
 pub use wiped::Wiped;
-pub use writing::write_header;
 pub use writing::longest_header;
 pub use writing::longest_line;
 pub use writing::write_and_read;
+pub use writing::write_header;
 pub use writing::write_line;
 
 // slots are numbered from 0
 pub const LAST_SLOT: u32 = 7;
+
 pub const LAST_KIND: u32 = 9;
 // bytes of the longest SIV
 pub const LONGEST_SIV: usize = 32;
@@ -31,4 +32,5 @@ pub const LONGEST_SIV: usize = 32;
 pub const LONGEST_TEXT: usize = 16_384;
 // bytes of the longest header, and of the longest line with its line end
 pub const LONGEST_HEADER: usize = 46;
+
 pub const LONGEST_LINE: usize = 32_894;

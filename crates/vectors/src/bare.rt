@@ -120,13 +120,20 @@ pub fn seals(heap: Global, call: &[&str; 5], after: &[&str; 5]) -> Result<bool, 
     let mut siv = filled(heap, expected.siv_room)?;
     let mut out = filled(heap, expected.out_room)?;
     let answer = inputs.seal(&mut siv, &mut out);
-    Ok(answer == expected.refused
-        && siv.as_slice() == expected.siv_after.as_slice()
-        && out.as_slice() == expected.out_after.as_slice())
+    Ok(
+        answer == expected.refused
+            && siv.as_slice() == expected.siv_after.as_slice()
+            && out.as_slice() == expected.out_after.as_slice(),
+    )
 }
 
 // Whether opening answers so and leaves the buffer so.
-pub fn opens(heap: Global, call: &[&str; 5], siv: &str, after: &[&str; 5]) -> Result<bool, AnyError> {
+pub fn opens(
+    heap: Global,
+    call: &[&str; 5],
+    siv: &str,
+    after: &[&str; 5],
+) -> Result<bool, AnyError> {
     let [suite, key, nonce, header, cipher] = *call;
     let inputs = Inputs::read(heap, suite, key, nonce, header, cipher)?;
     let expected = Outcome::read(heap, after)?;

@@ -146,8 +146,26 @@ fn seal_agrees(heap: Global, fields: &[&str]) -> Result<bool, AnyError> {
 // Whether opening with those arguments does what it should.
 fn open_agrees(heap: Global, fields: &[&str]) -> Result<bool, AnyError> {
     match fields {
-        ["open", suite, key, nonce, header, cipher, siv, a, b, c, d, e] => {
-            bare::opens(heap, &[suite, key, nonce, header, cipher], siv, &[a, b, c, d, e])
+        [
+            "open",
+            suite,
+            key,
+            nonce,
+            header,
+            cipher,
+            siv,
+            a,
+            b,
+            c,
+            d,
+            e,
+        ] => {
+            bare::opens(
+                heap,
+                &[suite, key, nonce, header, cipher],
+                siv,
+                &[a, b, c, d, e],
+            )
         }
         _ => Err("a line that is no case of opening".into()),
     }

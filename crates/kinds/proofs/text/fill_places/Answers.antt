@@ -34,9 +34,10 @@ offset-items-count g c = search (needs, place g c)
 
 pub loop-at-again : need.loop-at-again
 loop-at-again g c =
-    let read = sym (c .in-Some .ensures tt) in
-    (along-next (g .K·Kind .reading) (c .args .text .now) _ _ (c .loop-at .inv .0) _ (c .next-line-line .ensures) (place g c .1) (ap isSome read),
-     filled-next (g .K·Kind .reading) (c .args .text .now) _ _ _ _ (c .loop-at .inv .0) (c .loop-at .inv .1) _ (c .next-line-line .ensures) _ read (place g c .0))
+    let read = sym (c .in-Some .ensures tt) in (
+      along-next (g .K·Kind .reading) (c .args .text .now) _ _ (c .loop-at .inv .0) _ (c .next-line-line .ensures) (place g c .1) (ap isSome read),
+      filled-next (g .K·Kind .reading) (c .args .text .now) _ _ _ _ (c .loop-at .inv .0) (c .loop-at .inv .1) _ (c .next-line-line .ensures) _ read (place g c .0),
+    )
 
 pub loop-at-less : need.loop-at-less
 loop-at-less g c = omega (arith, c .next-line-line .ensures .some, c .next-line-line .ensures .fits)

@@ -22,10 +22,14 @@ loop-index-again g c =
 pub returns-then-items-gt-MOST-ITEMS : need.returns-then-items-gt-MOST-ITEMS
 returns-then-items-gt-MOST-ITEMS g c =
     let all = c .loop-index-test .left in
-    inr (measured-lawful (g .K·Kind .lawful) (g .K·Kind .line) _ _ _ all (c .loop-index .inv), elim (c .then-items-gt-MOST-ITEMS .came) [
-      | then-items-gt-MOST-ITEMS·by·then-items-gt-MOST-ITEMS w ↦ inl (w .if-items-gt-MOST-ITEMS .taken)
-      | then-items-gt-MOST-ITEMS·by·else-items-gt-MOST-ITEMS·then-total-gt-MOST-BYTES w ↦ inr (measured-past (g .K·Kind .lawful) (g .K·Kind .line) _ _ _ all (c .loop-index .inv) (w .if-total-gt-MOST-BYTES .taken))
-    ], refl)
+    inr (
+      measured-lawful (g .K·Kind .lawful) (g .K·Kind .line) _ _ _ all (c .loop-index .inv),
+      elim (c .then-items-gt-MOST-ITEMS .came) [
+        | then-items-gt-MOST-ITEMS·by·then-items-gt-MOST-ITEMS w ↦ inl (w .if-items-gt-MOST-ITEMS .taken)
+        | then-items-gt-MOST-ITEMS·by·else-items-gt-MOST-ITEMS·then-total-gt-MOST-BYTES w ↦ inr (measured-past (g .K·Kind .lawful) (g .K·Kind .line) _ _ _ all (c .loop-index .inv) (w .if-total-gt-MOST-BYTES .taken))
+      ],
+      refl,
+    )
 
 pub returns : need.returns
 returns g c = measured-all (g .K·Kind .lawful) (g .K·Kind .line) _ _ _ (c .loop-index-test .left) (c .loop-index .inv) (c .if-items-gt-MOST-ITEMS .left) (c .if-total-gt-MOST-BYTES .left)

@@ -42,9 +42,10 @@ add-result-in-Err c =
 
 pub returns-in-Ok : need.returns-in-Ok
 returns-in-Ok c =
-    let o : Read (Is (codes "))")) (drop (c .in-Continue-text .text .end) (c .args .s .now)) (c .in-Ok .n) = rw take-rest at (c .in-Ok .ensures tt) in
-    (whole-read (c .args .s .now) (c .in-Continue-slot .slot) (c .in-Continue-slot .ensures tt) (c .in-Continue-kind .kind) (c .in-Continue-kind .ensures tt) (c .in-Continue-serial .serial) (c .in-Continue-serial .ensures tt) (c .in-Continue-siv .siv) (c .in-Continue-siv .ensures tt) (c .in-Continue-text .text) (c .in-Continue-text .ensures tt) _ o,
-    record { lawful = made-lawful (c .args .s .now) (c .in-Continue-slot .slot) (c .in-Continue-slot .ensures tt) (c .in-Continue-kind .kind) (c .in-Continue-kind .ensures tt) (c .in-Continue-serial .serial) (c .in-Continue-serial .ensures tt) (c .in-Continue-siv .siv) (c .in-Continue-siv .ensures tt) (c .in-Continue-text .text) (c .in-Continue-text .ensures tt) _ o; line = made-line (c .args .s .now) (c .in-Continue-slot .slot) (c .in-Continue-slot .ensures tt) (c .in-Continue-kind .kind) (c .in-Continue-kind .ensures tt) (c .in-Continue-serial .serial) (c .in-Continue-serial .ensures tt) (c .in-Continue-siv .siv) (c .in-Continue-siv .ensures tt) (c .in-Continue-text .text) (c .in-Continue-text .ensures tt) _ o; head = made-header (c .args .s .now) (c .in-Continue-slot .slot) (c .in-Continue-slot .ensures tt) (c .in-Continue-kind .kind) (c .in-Continue-kind .ensures tt) (c .in-Continue-serial .serial) (c .in-Continue-serial .ensures tt) (c .in-Continue-siv .siv) (c .in-Continue-siv .ensures tt) (c .in-Continue-text .text) (c .in-Continue-text .ensures tt) _ o })
+    let o : Read (Is (codes "))")) (drop (c .in-Continue-text .text .end) (c .args .s .now)) (c .in-Ok .n) = rw take-rest at (c .in-Ok .ensures tt) in (
+      whole-read (c .args .s .now) (c .in-Continue-slot .slot) (c .in-Continue-slot .ensures tt) (c .in-Continue-kind .kind) (c .in-Continue-kind .ensures tt) (c .in-Continue-serial .serial) (c .in-Continue-serial .ensures tt) (c .in-Continue-siv .siv) (c .in-Continue-siv .ensures tt) (c .in-Continue-text .text) (c .in-Continue-text .ensures tt) _ o,
+      record { lawful = made-lawful (c .args .s .now) (c .in-Continue-slot .slot) (c .in-Continue-slot .ensures tt) (c .in-Continue-kind .kind) (c .in-Continue-kind .ensures tt) (c .in-Continue-serial .serial) (c .in-Continue-serial .ensures tt) (c .in-Continue-siv .siv) (c .in-Continue-siv .ensures tt) (c .in-Continue-text .text) (c .in-Continue-text .ensures tt) _ o; line = made-line (c .args .s .now) (c .in-Continue-slot .slot) (c .in-Continue-slot .ensures tt) (c .in-Continue-kind .kind) (c .in-Continue-kind .ensures tt) (c .in-Continue-serial .serial) (c .in-Continue-serial .ensures tt) (c .in-Continue-siv .siv) (c .in-Continue-siv .ensures tt) (c .in-Continue-text .text) (c .in-Continue-text .ensures tt) _ o; head = made-header (c .args .s .now) (c .in-Continue-slot .slot) (c .in-Continue-slot .ensures tt) (c .in-Continue-kind .kind) (c .in-Continue-kind .ensures tt) (c .in-Continue-serial .serial) (c .in-Continue-serial .ensures tt) (c .in-Continue-siv .siv) (c .in-Continue-siv .ensures tt) (c .in-Continue-text .text) (c .in-Continue-text .ensures tt) _ o },
+    )
 
 pub returns-in-Err : need.returns-in-Err
 returns-in-Err c =

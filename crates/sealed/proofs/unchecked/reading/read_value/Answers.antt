@@ -14,9 +14,12 @@ returns-then-low-gt0 c = zero-none (c .args .low) (c .args .high) (c .pre .0) (c
 
 pub returns-then-s-eq48 : need.returns-then-s-eq48
 returns-then-s-eq48 c =
-    let l : 0 < length (c .args .s .now) = omega arith in
-    (zero-token (c .args .low) (c .args .high) (c .pre .0) (c .pre .1) (omega arith) (c .args .s .now) (omega arith) l (c .if-s-eq48 .taken),
-    take-more (c .args .s .now) 0 0 l ∙ ap (λ x. x ∷ []) (c .if-s-eq48 .taken) ∙ sym (figures-one 0 (omega arith)), omega arith, omega arith)
+    let l : 0 < length (c .args .s .now) = omega arith in (
+      zero-token (c .args .low) (c .args .high) (c .pre .0) (c .pre .1) (omega arith) (c .args .s .now) (omega arith) l (c .if-s-eq48 .taken),
+      take-more (c .args .s .now) 0 0 l ∙ ap (λ x. x ∷ []) (c .if-s-eq48 .taken) ∙ sym (figures-one 0 (omega arith)),
+      omega arith,
+      omega arith,
+    )
 
 pub returns-then-found-eq0 : need.returns-then-found-eq0
 returns-then-found-eq0 c =

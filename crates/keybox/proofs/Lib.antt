@@ -1,0 +1,4 @@
+mod Opened
+mod Judged
+mod Passing
+mod Boxed
