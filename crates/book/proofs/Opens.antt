@@ -147,11 +147,11 @@ module _ {X : Type 0} (lawful : X → Bool) (line : X → List ℕ) (number : �
           },
         )
 
-    pub refused-noted : ((s m : ℕ) (key : List ℕ) (xs : List X) → Pass s m key xs → ⊥) → Noted seal slots slots (this ∷ [])
+    pub refused-noted : ((s m : ℕ) (key : List ℕ) (xs : List X) → s < slot-count → Pass s m key xs → ⊥) → Noted seal slots slots (this ∷ [])
     refused-noted never h st s =
-        still (at s) (key-in h s) (Opened seal h s) _ (λ m o. let b = to-box h st s m o in never s m (b .0) (b .1) (b .2)) (st s)
+        still (at s) (key-in h s) (Opened seal h s) _ (λ m o. let b = to-box h st s m o in never s m (b .0) (b .1) (key-within h s (o .key) (o .key-is)) (b .2)) (st s)
 
-    pub refused-law : {E : Type 0} (why : E) (after : List X) (h : List Call) → ((s m : ℕ) (key : List ℕ) (xs : List X) → Pass s m key xs → ⊥) → Stands seal slots h → OpenLaw seal lawful line number h l work before after (Err why)
+    pub refused-law : {E : Type 0} (why : E) (after : List X) (h : List Call) → ((s m : ℕ) (key : List ℕ) (xs : List X) → s < slot-count → Pass s m key xs → ⊥) → Stands seal slots h → OpenLaw seal lawful line number h l work before after (Err why)
     refused-law why after h never st =
         record {
           exactly =
@@ -159,7 +159,7 @@ module _ {X : Type 0} (lawful : X → Bool) (line : X → List ℕ) (number : �
                 (λ e. absurd (false≢true e)),
                 λ o.
                     absurd
-                    (never (o .0) (o .1) (o .2) (o .3)
+                    (never (o .0) (o .1) (o .2) (o .3) (key-within h (o .0) (o .2) (o .4))
                     (record {
                       key-is = st (o .0) .key-is ∙ o .4;
                       later = st (o .0) .below (o .1) (o .6);

@@ -71,8 +71,7 @@ impl Table {
 
     // The slot `i`: an empty one past the eighth.
     pub fn at(&self, i: u8) -> Slot
-        ensures value { λ r. ⌜ r ≡ getD (now (self .entry) .slots) i empty ⌝ }
-        ensures long { λ _. ⌜ length (now (self .entry) .slots) ≡ 8 ⌝ }
+        ensures { λ r. ⌜ r ≡ getD (now (self .entry) .slots) i empty ⌝ }
     {
         let all = &self.slots[..];
         let i = i as usize;

@@ -33,7 +33,7 @@ module _ {X : Type 0} (f : StreamOf) (bytes : (seed nonce : List ℕ) (place : �
   call = opening l (kind-of number reading) work (length before)
 
   abbrev Never : Type 0
-  Never = (a m : ℕ) (key : List ℕ) (xs : List X) → Pass f bytes s lawful line number reading numbered shaped found sound slots l work before a m key xs → ⊥
+  Never = (a m : ℕ) (key : List ℕ) (xs : List X) → a < slot-count → Pass f bytes s lawful line number reading numbered shaped found sound slots l work before a m key xs → ⊥
 
   never-noted : Never → Noted (sheet-line f s) slots slots (call ∷ [])
   never-noted never =
@@ -44,22 +44,22 @@ module _ {X : Type 0} (f : StreamOf) (bytes : (seed nonce : List ℕ) (place : �
       opens.refused-law lawful line number reading found sound (Ready f bytes s lawful line number reading numbered shaped found sound) (ready f bytes s lawful line number reading numbered shaped found sound) (sheet-line f s) (apart f bytes s lawful line number reading numbered shaped found sound) (one-list f bytes s lawful line number reading numbered shaped found sound) slots l work before why after h never st
 
   -- the line was not read
-  pub unread-noted : (SealedLine l → ⊥) → length slots ≡ slot-count → Noted (sheet-line f s) slots slots (call ∷ [])
-  unread-noted n long = never-noted (unsealed f bytes s lawful line number reading numbered shaped found sound slots l work before n long)
+  pub unread-noted : (SealedLine l → ⊥) → Noted (sheet-line f s) slots slots (call ∷ [])
+  unread-noted n = never-noted (unsealed f bytes s lawful line number reading numbered shaped found sound slots l work before n)
 
-  pub unread-law : (SealedLine l → ⊥) → length slots ≡ slot-count → (why : Refusal) (after : List X) (h : List Call) → Stands (sheet-line f s) slots h → OpenLaw (sheet-line f s) lawful line number h l work before after (Err why)
-  unread-law n long = never-law (unsealed f bytes s lawful line number reading numbered shaped found sound slots l work before n long)
+  pub unread-law : (SealedLine l → ⊥) → (why : Refusal) (after : List X) (h : List Call) → Stands (sheet-line f s) slots h → OpenLaw (sheet-line f s) lawful line number h l work before after (Err why)
+  unread-law n = never-law (unsealed f bytes s lawful line number reading numbered shaped found sound slots l work before n)
 
   module _ (p : Parts) (is-lawful : Lawful p) (is-line : l ≡ sealed-line p) where
     abbrev slot : Slot
     slot = getD slots (p .slot) empty
 
     -- the opening was refused
-    pub refused-noted : (after : List X) (why : Refusal) → length slots ≡ slot-count → Answered (first-checks s slot number work p) (sheet-text f s slot p) reading before after (Err why) → Noted (sheet-line f s) slots slots (call ∷ [])
-    refused-noted after why long a = never-noted (refused f bytes s lawful line number reading numbered shaped found sound slots l work before p is-lawful is-line after why long a)
+    pub refused-noted : (after : List X) (why : Refusal) → Answered (first-checks s slot number work p) (sheet-text f s slot p) reading before after (Err why) → Noted (sheet-line f s) slots slots (call ∷ [])
+    refused-noted after why a = never-noted (refused f bytes s lawful line number reading numbered shaped found sound slots l work before p is-lawful is-line after why a)
 
-    pub refused-law : (after : List X) (why : Refusal) → length slots ≡ slot-count → Answered (first-checks s slot number work p) (sheet-text f s slot p) reading before after (Err why) → (h : List Call) → Stands (sheet-line f s) slots h → OpenLaw (sheet-line f s) lawful line number h l work before after (Err why)
-    refused-law after why long a = never-law (refused f bytes s lawful line number reading numbered shaped found sound slots l work before p is-lawful is-line after why long a) why after
+    pub refused-law : (after : List X) (why : Refusal) → Answered (first-checks s slot number work p) (sheet-text f s slot p) reading before after (Err why) → (h : List Call) → Stands (sheet-line f s) slots h → OpenLaw (sheet-line f s) lawful line number h l work before after (Err why)
+    refused-law after why a = never-law (refused f bytes s lawful line number reading numbered shaped found sound slots l work before p is-lawful is-line after why a) why after
 
     -- the opening was granted
     module _ (after : List X) (n : ℕ) (a : Answered (first-checks s slot number work p) (sheet-text f s slot p) reading before after (Ok n)) where

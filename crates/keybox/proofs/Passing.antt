@@ -46,14 +46,6 @@ parts-is p v t e h =
     ap (λ x. record { slot = p .slot; kind = p .kind; serial = p .serial; siv = x; text = p .text }) (sym e)
     ∙ ap (λ x. record { slot = p .slot; kind = p .kind; serial = p .serial; siv = v; text = x }) (sym h)
 
--- a slot with a key is one of the slots
-key-slot : (slots : List Slot) (a : ℕ) (k : List ℕ) → key-of (getD slots a empty) ≡ Some k → a < length slots
-key-slot slots a k e =
-    ⊎-elim (λ (h : a < length slots). h)
-    (λ (h : length slots ≤ a).
-    absurd (let past = ap key-of (getD-past slots a empty h) in let z : _≡_ {A = ℕ} 0 1 = cc in omega arith))
-    (cases-lt a (length slots))
-
 module _ {X : Type 0} (reading : List ℕ → Option X) (before after : List X) where
   split-ok : (n : ℕ) (o : Option Refusal) (t : Option (List ℕ)) → Answered o t reading before after (Ok n) → (o ≡ None) × ((u : List ℕ) × (t ≡ Some u) × Fills reading u before after (Ok n))
   split-ok n (Some w) t a = absurd (let e = a .0 in let z : _≡_ {A = ℕ} 0 1 = cc in omega arith)
@@ -90,10 +82,9 @@ module _ {X : Type 0} (f : StreamOf) (bytes : (seed nonce : List ℕ) (place : �
     Pass a m key xs = Passes (sheet-line f s) lawful line number slots l work (length before) a m key xs
 
     -- no sealed line, no list
-    pub unsealed : (SealedLine l → ⊥) → length slots ≡ slot-count → (a m : ℕ) (key : List ℕ) (xs : List X) → Pass a m key xs → ⊥
+    pub unsealed : (SealedLine l → ⊥) → (a m : ℕ) (key : List ℕ) (xs : List X) → a < slot-count → Pass a m key xs → ⊥
     unfolding sheet-line
-    unsealed never long a m key xs p =
-        let ha : a < slot-count = omega (arith, key-slot slots a key (p .key-is)) in
+    unsealed never a m key xs ha p =
         never (_, lines.lawful-parts f bytes s a number m key (joined line xs) (head a m ha (p .seals .serial-first) (p .seals .serial-last)) (ready xs (p .seals .are-lawful) (p .seals .short)), p .seals .line-is)
 
     module _ (p : Parts) (is-lawful : Lawful p) (is-line : l ≡ sealed-line p) where
@@ -150,10 +141,9 @@ module _ {X : Type 0} (f : StreamOf) (bytes : (seed nonce : List ℕ) (place : �
           )
 
       -- what was refused
-      pub refused : (after : List X) (why : Refusal) → length slots ≡ slot-count → Answered (first-checks s slot number work p) (sheet-text f s slot p) reading before after (Err why) → (a m : ℕ) (key : List ℕ) (xs : List X) → Pass a m key xs → ⊥
+      pub refused : (after : List X) (why : Refusal) → Answered (first-checks s slot number work p) (sheet-text f s slot p) reading before after (Err why) → (a m : ℕ) (key : List ℕ) (xs : List X) → a < slot-count → Pass a m key xs → ⊥
       unfolding sheet-line
-      refused after why long ans a m key xs ps =
-          let ha : a < slot-count = omega (arith, key-slot slots a key (ps .key-is)) in
+      refused after why ans a m key xs ha ps =
           let text = joined line xs in
           let hd = head a m ha (ps .seals .serial-first) (ps .seals .serial-last) in
           let q = sealed-parts f s a number m key text in

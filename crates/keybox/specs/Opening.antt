@@ -1,26 +1,28 @@
 -- What opening a sheet answers, check by check.
 use mathlib.Core.Path.{_≡_}
 use mathlib.Core.Bool.{Bool, not}
+use mathlib.Core.Logic.{_⊎_}
 use mathlib.Core.List.{List, []}
 use Prim.Native.Nat.{ℕ}
 use lib.Dec.{eqb, ltb}
-use lib.ListN.{length}
+use lib.ListN.{length, getD}
 use Rattle.std.specs.Options.{valueOr}
 use Rattle.std.specs.declared.option.Option.{Option}
 use Rattle.std.specs.declared.option.Option.the-variants.{Some, None}
 use Rattle.std.specs.declared.result.Result.{Result}
 use Rattle.std.specs.declared.result.Result.the-variants.{Ok, Err}
 use Rattle.refusal.specs.declared.Refusal.{Refusal}
-use Rattle.refusal.specs.declared.Refusal.the-variants.{OtherKind, EmptySlot, StaleSerial, SivLength, ShortWork, WrongSiv}
+use Rattle.refusal.specs.declared.Refusal.the-variants.{OtherKind, EmptySlot, StaleSerial, SivLength, ShortWork, WrongSiv, NoSealedLine}
 use Rattle.hash.specs.declared.Strength.{Strength}
 use Rattle.hash.specs.Strength.{siv-length}
 use Rattle.stream.specs.Stream.{StreamOf}
 use Rattle.hs1.specs.Checks.{refuse-if, or-else}
 use Rattle.hs1.specs.Seal.{opened}
 use Rattle.kinds.specs.Text.{Fills}
-use Rattle.sealed.specs.Line.{Parts, header-of}
+use Rattle.sealed.specs.Line.{Parts, Lawful, SealedLine, header-of, sealed-line}
+use Rattle.shape.specs.Column.{Column}
 use Rattle.book.specs.declared.Slot.{Slot}
-use Rattle.book.specs.Keys.{key-of}
+use Rattle.book.specs.Keys.{key-of, empty}
 use Rattle.sheet.specs.Sheet.{nonce-of}
 
 -- a slot without a key
@@ -50,3 +52,10 @@ abbrev pub Answered : {X : Type 0} → Option Refusal → Option (List ℕ) → 
 Answered (Some why) text reading before after r = (r ≡ Err why) × (after ≡ before)
 Answered None None reading before after r = (r ≡ Err WrongSiv) × (after ≡ before)
 Answered None (Some text) reading before after r = Fills reading text before after r
+
+-- What giving a box any bytes answers: bytes that are no sealed line are refused
+-- with the column of the fault; else the answer is that of opening the sheet.
+abbrev pub LineAnswered : {X : Type 0} → StreamOf → Strength → (slots : List Slot) (number work : ℕ) → (List ℕ → Option X) → (l : List ℕ) (before after : List X) → Result ℕ Refusal → Type 0
+LineAnswered f s slots number work reading l before after r =
+    ((SealedLine l → ⊥) × ((c : ℕ) × Column SealedLine l c × (r ≡ Err (NoSealedLine c))) × (after ≡ before))
+    ⊎ ((p : Parts) × Lawful p × (l ≡ sealed-line p) × Answered (first-checks s (getD slots (p .slot) empty) number work p) (sheet-text f s (getD slots (p .slot) empty) p) reading before after r)

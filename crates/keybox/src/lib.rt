@@ -19,7 +19,7 @@ ghost use Rattle.book.specs.Book.{Call, Sealing, setting, clearing, asking, ope
 ghost use Rattle.book.specs.Law.{OpenLaw};
 ghost use Rattle.book.specs.Stands.{Stands, Noted};
 ghost use Rattle.sheet.specs.Sheet.{nonce-of, sheet-line};
-ghost use Rattle.keybox.specs.Opening.{first-checks, sheet-text, Answered};
+ghost use Rattle.keybox.specs.Opening.{first-checks, sheet-text, Answered, LineAnswered};
 use book::Key;
 use book::Slot;
 use book::Table;
@@ -180,6 +180,31 @@ impl<S: Stream> KeyBox<S> {
                 Ok(count)
             }
             Err(why) => Err(why),
+        }
+    }
+
+    // Reads any bytes as a sealed line (11) and, if they are one, opens the
+    // sheet as `open` does.
+    pub fn open_line<K: Kind>(
+        &mut self,
+        line: &[u8],
+        work: &mut [u8],
+        tray: &mut Tray<'_, K::Item>,
+    ) -> Result<usize, Refusal>
+        ensures kept { λ _. ⌜ (now (self .exit) .stream ≡ now (self .entry) .stream) × (now (self .exit) .strength ≡ now (self .entry) .strength) ⌝ }
+        ensures answer { λ r. ⌜ LineAnswered (S·Stream .meaning (now (self .entry) .stream)) (now (self .entry) .strength) (now (self .entry) .table .slots) (K·Kind .tag) (length (now (work .entry))) (K·Kind .reading) (now (line .entry)) (now (now (tray .entry) .items)) (now (now (tray .exit) .items)) r ⌝ }
+        ensures count { λ r. ⌜ ByOk r (λ n. now (tray .exit) .count ≡ n) (λ _. now (tray .exit) .count ≡ now (tray .entry) .count) ⌝ }
+        ensures lent { λ _. ⌜ name (now (tray .exit) .items) ≡ name (now (tray .entry) .items) ⌝ }
+        ensures wiped { λ _. ⌜ now (work .exit) ≡ replicate (length (now (work .entry))) 0 ⌝ }
+        ensures noted { λ _. ⌜ Noted (sheet-line (S·Stream .meaning (now (self .entry) .stream)) (now (self .entry) .strength)) (now (self .entry) .table .slots) (now (self .exit) .table .slots) (opening (now (line .entry)) (kind-of (K·Kind .tag) (K·Kind .reading)) (length (now (work .entry))) (length (now (now (tray .entry) .items))) ∷ []) ⌝ }
+        ensures law { λ r. ⌜ ((h : List Call) → Stands (sheet-line (S·Stream .meaning (now (self .entry) .stream)) (now (self .entry) .strength)) (now (self .entry) .table .slots) h → OpenLaw (sheet-line (S·Stream .meaning (now (self .entry) .stream)) (now (self .entry) .strength)) (K·Kind .lawful) (K·Kind .line) (K·Kind .tag) h (now (line .entry)) (length (now (work .entry))) (now (now (tray .entry) .items)) (now (now (tray .exit) .items)) r) ⌝ }
+    {
+        match Unchecked::read(line) {
+            Ok(sheet) => self.open::<K>(sheet, work, tray),
+            Err(why) => {
+                let _guard = Wiped { work };
+                Err(why)
+            }
         }
     }
 }

@@ -27,7 +27,7 @@ returns-in-Ok g c =
     let slots = c .args .self .now .table .slots in
     let f = g .S·Stream .meaning (c .args .self .now .stream) in
     let s = c .args .self .now .strength in
-    let at-is : c .at-slot .result ≡ getD slots (c .args .sheet .slot) empty = c .at-slot .ensures .value ∙ ap (λ i. getD slots i empty) (c .slot-number .ensures) in
+    let at-is : c .at-slot .result ≡ getD slots (c .args .sheet .slot) empty = c .at-slot .ensures ∙ ap (λ i. getD slots i empty) (c .slot-number .ensures) in
     let p = parts-of (c .args .sheet) in
     let there = put-there slots (c .put .last .self .slots) (c .slot-number .result) (c .args .sheet .slot) (c .serial-serial .result) (c .args .sheet .serial) (c .at-slot .result) (c .slot-number .ensures) (c .serial-serial .ensures) at-is (c .put .ensures) in
     let P : Slot → Type 0 = λ v. Answered (first-checks s v (g .K·Kind .tag) (length (c .args .work .now)) p) (sheet-text f s v p) (g .K·Kind .reading) (c .args .tray .now .items .now) (c .judge .last .tray .items .now) (Ok (c .in-Ok .count)) in
@@ -47,7 +47,7 @@ returns g c =
     let slots = c .args .self .now .table .slots in
     let f = g .S·Stream .meaning (c .args .self .now .stream) in
     let s = c .args .self .now .strength in
-    let at-is : c .at-slot .result ≡ getD slots (c .args .sheet .slot) empty = c .at-slot .ensures .value ∙ ap (λ i. getD slots i empty) (c .slot-number .ensures) in
+    let at-is : c .at-slot .result ≡ getD slots (c .args .sheet .slot) empty = c .at-slot .ensures ∙ ap (λ i. getD slots i empty) (c .slot-number .ensures) in
     let p = parts-of (c .args .sheet) in
     let P : Slot → Type 0 = λ v. Answered (first-checks s v (g .K·Kind .tag) (length (c .args .work .now)) p) (sheet-text f s v p) (g .K·Kind .reading) (c .args .tray .now .items .now) (c .judge .last .tray .items .now) (Err (c .in-Err .why)) in
     record {
@@ -57,6 +57,6 @@ returns g c =
       count = c .in-Err .ensures tt .count;
       lent = c .in-Err .ensures tt .lent;
       wiped = c .drop-guard-2 .ensures ∙ ap (λ n. replicate n 0) (c .judge .kept .work);
-      noted = λ l rf. refused-noted f (g .S·Stream·met .byted (c .args .self .now .stream)) s (g .K·Kind .lawful) (g .K·Kind .line) (g .K·Kind .tag) (g .K·Kind .reading) (g .K·Kind·met .numbered) (g .K·Kind·met .shaped) (g .K·Kind·met .found) (g .K·Kind·met .sound) slots l (length (c .args .work .now)) (c .args .tray .now .items .now) p (rf .lawful) (rf .line) _ (c .in-Err .why) (c .at-slot .ensures .long) (subst P at-is (c .in-Err .ensures tt .answer l rf));
-      law = λ l rf h st. refused-law f (g .S·Stream·met .byted (c .args .self .now .stream)) s (g .K·Kind .lawful) (g .K·Kind .line) (g .K·Kind .tag) (g .K·Kind .reading) (g .K·Kind·met .numbered) (g .K·Kind·met .shaped) (g .K·Kind·met .found) (g .K·Kind·met .sound) slots l (length (c .args .work .now)) (c .args .tray .now .items .now) p (rf .lawful) (rf .line) _ (c .in-Err .why) (c .at-slot .ensures .long) (subst P at-is (c .in-Err .ensures tt .answer l rf)) h st;
+      noted = λ l rf. refused-noted f (g .S·Stream·met .byted (c .args .self .now .stream)) s (g .K·Kind .lawful) (g .K·Kind .line) (g .K·Kind .tag) (g .K·Kind .reading) (g .K·Kind·met .numbered) (g .K·Kind·met .shaped) (g .K·Kind·met .found) (g .K·Kind·met .sound) slots l (length (c .args .work .now)) (c .args .tray .now .items .now) p (rf .lawful) (rf .line) _ (c .in-Err .why) (subst P at-is (c .in-Err .ensures tt .answer l rf));
+      law = λ l rf h st. refused-law f (g .S·Stream·met .byted (c .args .self .now .stream)) s (g .K·Kind .lawful) (g .K·Kind .line) (g .K·Kind .tag) (g .K·Kind .reading) (g .K·Kind·met .numbered) (g .K·Kind·met .shaped) (g .K·Kind·met .found) (g .K·Kind·met .sound) slots l (length (c .args .work .now)) (c .args .tray .now .items .now) p (rf .lawful) (rf .line) _ (c .in-Err .why) (subst P at-is (c .in-Err .ensures tt .answer l rf)) h st;
     }
