@@ -1,5 +1,7 @@
 //! The box: a stream, a strength and eight key slots.
 
+mod calls;
+
 ghost use mathlib.Core.Path.{_≡_};
 ghost use mathlib.Core.Bool.{cond, _&&_};
 ghost use mathlib.Core.List.{List, [], _∷_};
@@ -23,6 +25,18 @@ ghost use Rattle.keybox.specs.Opening.{first-checks, sheet-text, Answered, Lin
 use book::Key;
 use book::Slot;
 use book::Table;
+pub use calls::Ask;
+pub use calls::AskCalls;
+pub use calls::Calls;
+pub use calls::Clear;
+pub use calls::ClearCalls;
+pub use calls::Nothing;
+pub use calls::NothingCalls;
+pub use calls::OpenLine;
+pub use calls::OpenLineCalls;
+pub use calls::SetKey;
+pub use calls::SetKeyCalls;
+pub use calls::open_after;
 use hash::Strength;
 use kinds::Kind;
 use kinds::Tray;
@@ -90,6 +104,7 @@ fn judge<S: Stream, K: Kind>(
 }
 
 // A box: a stream, a strength, and eight key slots.
+#[derive(Drop)]
 pub struct KeyBox<S: Stream> {
     stream: S,
     strength: Strength,
