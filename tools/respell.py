@@ -61,6 +61,16 @@ def own_names():
     return names - made
 
 
+def borrowed(text):
+    """The names that a file takes from the toolchain's library: they keep their spelling there."""
+    crates, names = set(os.listdir("crates")), set()
+    for m in re.finditer(r"^(?:ghost )?use ([\w.+'-]+)\.\{([^}]*)\}", text, re.M):
+        path = m.group(1).split(".")
+        if path[0] != "Rattle" or path[1] not in crates:
+            names |= {x.split()[0] for x in m.group(2).split(",") if x.strip()}
+    return names
+
+
 def snake(name):
     return re.sub(r"(?<=[a-z0-9])([A-Z])", lambda m: "_" + m.group(1).lower(), name)
 
@@ -126,7 +136,9 @@ def main():
     table = {n: respelt(n) for n in own_names()}
     table = {a: b for a, b in table.items() if a != b}
     for path in antt():
-        write(path, by_line(read(path), table, "--", turned))
+        text = read(path)
+        kept = borrowed(text)
+        write(path, by_line(text, {a: b for a, b in table.items() if a not in kept}, "--", turned))
     for path in sorted(glob.glob("crates/*/src/**/*.rt", recursive=True)):
         write(path, by_line(read(path), table, "//", outside_strings))
     for path in sorted(glob.glob("crates/*/must-fail/*.edit") + glob.glob("misuse/*/*.edit")):

@@ -3,7 +3,7 @@ use Rattle.std.proofs.Common.{◌≡◌, ℕ, zero, suc, ◌+◌, ◌-◌, ◌*�
 use lib.Bits.{bit_xor}
 use lib.Lanes.{zip2}
 use borrow.Rule.Slice.PartMut.{put_mid}
-use Rattle.std.proofs.lemmas.List.{ext_get_or, get_or-map, length-map, length-take-le, length-drop, get_or_append_left, get_or_append_right, get_or-take, take_at, take-append-drop, append_assoc, length_append}
+use Rattle.std.proofs.lemmas.List.{ext_get_or, get_or-map, length-map, length-take-le, length-drop, get_or_append_left, get_or-append_right, get_or-take, take_at, take-append-drop, append_assoc, length-append}
 use Rattle.std.proofs.lemmas.Bool.{cases_lt}
 use Rattle.stream.proofs.Fours.{set_four}
 use Rattle.aes.specs.Aes.{key_byte, grown, sub_bytes, shift_rows, mix_columns, add_round_key, full_rounds, encrypted, four_bytes, byte_under}
@@ -24,7 +24,7 @@ part_more f out part a le l inv at k h =
     (λ (lt : k < a). get_or_append_left (take a out) (part ++ drop 16 (drop a out)) 0 k (omega arith) ∙ get_or-take a out k 0 lt ∙ inv k lt)
     (λ (ge : a ≤ k).
     let e : a + (k - a) ≡ k = omega arith in
-    get_or_append_right (take a out) (part ++ drop 16 (drop a out)) a k 0 n ge
+    get_or-append_right (take a out) (part ++ drop 16 (drop a out)) a k 0 n ge
     ∙ get_or_append_left part (drop 16 (drop a out)) 0 (k - a) (omega arith)
     ∙ at (k - a) (omega arith) ∙ ap f e)
     (cases_lt k a)
@@ -54,7 +54,7 @@ word_more key w i a b c d ge le inv ea eb ec ed (suc n) e =
     ap (λ x. x ∷ b ∷ c ∷ d ∷ []) (ea ∙ byte 0 (lit< tt)) ∙ ap (λ x. key_byte w' (n + 8) 0 ∷ x ∷ c ∷ d ∷ []) (eb ∙ byte 1 (lit< tt))
     ∙ ap (λ x. key_byte w' (n + 8) 0 ∷ key_byte w' (n + 8) 1 ∷ x ∷ d ∷ []) (ec ∙ byte 2 (lit< tt)) ∙ ap (λ x. key_byte w' (n + 8) 0 ∷ key_byte w' (n + 8) 1 ∷ key_byte w' (n + 8) 2 ∷ x ∷ []) (ed ∙ byte 3 (lit< tt)) in
     let abcd = a ∷ b ∷ c ∷ d ∷ [] in
-    let long : length (p ++ abcd) ≡ 4 * (i + 1) = length_append p abcd ∙ ap (λ x. x + 4) l ∙ k in
+    let long : length (p ++ abcd) ≡ 4 * (i + 1) = length-append p abcd ∙ ap (λ x. x + 4) l ∙ k in
     ap (λ x. take (4 * (i + 1)) (set (set (set (set x (4 * i) a) (4 * i + 1) b) (4 * i + 2) c) (4 * i + 3) d)) (sym (take-append-drop (4 * i) w))
     ∙ ap (take (4 * (i + 1))) (set_four p zs (4 * i) a b c d l four ∙ sym (append_assoc p abcd (drop 4 zs)))
     ∙ take_at (p ++ abcd) (drop 4 zs) (4 * (i + 1)) long

@@ -1,7 +1,7 @@
 -- Inputs in blocks.
 use Rattle.std.proofs.Common.{◌≡◌, ℕ, suc, ◌+◌, ◌-◌, ◌*◌, ◌/◌, ◌%◌, ◌^◌, ◌<◌, ◌≤◌, List, [], ◌∷◌, ◌++◌, length, get_or, take, drop, replicate, sym, refl, ap, ◌∙◌, subst, append_assoc, append-nil, arith}
 use native.Mathlib.Nat.{sub-zero}
-use Rattle.std.proofs.lemmas.List.{length_append, length-replicate, length-take-le, take_at, drop_at, take_all, take-append-drop, take_rest, take-replicate, drop_all, drop-drop, length-drop, replicate-append-replicate}
+use Rattle.std.proofs.lemmas.List.{length-append, length-replicate, length-take-le, take_at, drop_at, take_all, take-append-drop, take_rest, take-replicate, drop_all, drop-drop, length-drop, replicate-append-replicate}
 use Rattle.hash.specs.declared.HashKeys.{HashKeys}
 use Rattle.hash.specs.declared.Hasher.{Hasher}
 use Rattle.hash.specs.Bytes.{pad, ints, ints_of}
@@ -31,7 +31,7 @@ turns_same keys t a b was after e h =
 -- a block of 64 bytes in front of more input
 pub turned_block : (k : List ℕ) (kP h : ℕ) (b m : List ℕ) → length b ≡ 64 → 0 < length m → turned k kP h (blocks (b ++ m)) ≡ turned k kP (turn kP h (block_number k b)) (blocks m)
 turned_block k kP h b m e lt =
-    let n : (length (b ++ m) - 1) / 64 ≡ suc ((length m - 1) / 64) = omega (arith, length_append b m) in
+    let n : (length (b ++ m) - 1) / 64 ≡ suc ((length m - 1) / 64) = omega (arith, length-append b m) in
     let c : cut ((length (b ++ m) - 1) / 64) (b ++ m) ≡ b ∷ cut ((length m - 1) / 64) m =
     ap (λ x. cut x (b ++ m)) n
     ∙ ap (λ x. x ∷ cut ((length m - 1) / 64) (drop 64 (b ++ m))) (take_at b m 64 e)
@@ -92,8 +92,8 @@ module _ (keys : HashKeys) (t : ℕ) where
   pass_block s s' s'' part f g lt i l more =
       let rest = drop 64 part ++ more in
       let n = length-drop 64 part in
-      let a = length_append (drop 64 part) more in
-      let b = length_append part more in
+      let a = length-append (drop 64 part) more in
+      let b = length-append part more in
       let e : take 64 part ++ rest ≡ part ++ more = sym (append_assoc (take 64 part) (drop 64 part) more) ∙ ap (λ x. x ++ more) (take-append-drop 64 part) in
       g i l rest (omega arith) ∙ ap (ending keys s' i) e ∙ f i l (part ++ more) (omega arith)
 
@@ -101,7 +101,7 @@ module _ (keys : HashKeys) (t : ℕ) where
   pub pass_some : (s s' s'' : Hasher) (part : List ℕ) (r : ℕ) → Takes keys t s [] s' → Passes keys t s' (take r part) [] s'' → 0 < length part → Passes keys t s part (drop r part) s''
   pass_some s s' s'' part r f g lt i l more =
       let rest = drop r part ++ more in
-      let b = length_append part more in
+      let b = length-append part more in
       let e : take r part ++ rest ≡ part ++ more = sym (append_assoc (take r part) (drop r part) more) ∙ ap (λ x. x ++ more) (take-append-drop r part) in
       g i l rest ∙ ap (ending keys s' i) e ∙ f i l (part ++ more) (omega arith)
 
@@ -134,8 +134,8 @@ last_words b n e le =
     append_assoc b (replicate z 0) tail
     ∙ ap (λ x. b ++ x) (replicate-append-replicate z (64 - n - z) 0 ∙ ap (λ x. replicate x 0) (omega arith))
     in
-    let l : length full ≡ 64 = length_append b (replicate (64 - n) 0) ∙ ap (λ x. length b + x) (length-replicate (64 - n) 0) ∙ omega arith in
-    let lp : length (pad 16 b) ≡ length b + z = length_append b (replicate z 0) ∙ ap (λ x. length b + x) (length-replicate z 0) in
+    let l : length full ≡ 64 = length-append b (replicate (64 - n) 0) ∙ ap (λ x. length b + x) (length-replicate (64 - n) 0) ∙ omega arith in
+    let lp : length (pad 16 b) ≡ length b + z = length-append b (replicate z 0) ∙ ap (λ x. length b + x) (length-replicate z 0) in
     let whole : ints 4 full ≡ ints_of 4 16 full = ap (λ x. ints_of 4 (x / 4) full) l in
     let part : ints_of 4 c full ≡ ints_of 4 c (pad 16 b) = ap (ints_of 4 c) (sym split) ∙ ints_append 4 c (pad 16 b) tail (omega arith) in
     let count : c ≡ length (pad 16 b) / 4 = omega arith in

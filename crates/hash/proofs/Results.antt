@@ -2,7 +2,7 @@
 use Rattle.std.proofs.Common.{◌≡◌, ℕ, zero, suc, ◌+◌, ◌-◌, ◌*◌, ◌%◌, ◌^◌, ◌<◌, ◌≤◌, List, [], ◌∷◌, ◌++◌, map, length, get_or, take, drop, replicate, sym, refl, ap, ◌∙◌, append_assoc, append-nil, mul-zero, mul-suc, add-one, arith}
 use native.Mathlib.Nat.{sub-zero}
 use borrow.Rule.Slice.PartMut.{put_mid}
-use Rattle.std.proofs.lemmas.List.{take_at, drop_at, drop-replicate, length_append}
+use Rattle.std.proofs.lemmas.List.{take_at, drop_at, drop-replicate, length-append}
 use Rattle.hash.specs.declared.Strength.{Strength}
 use Rattle.hash.specs.declared.Strength.TheVariants.{Lo, Mid, Hi}
 use Rattle.hash.specs.Strength.{hashes}
@@ -18,7 +18,7 @@ length_result Hi k h = refl
 pub length_results : (s : Strength) (k : List ℕ) (h : ℕ → ℕ) (n : ℕ) → length (results s k h n) ≡ result_width s * n
 length_results s k h zero = sym (mul-zero (result_width s))
 length_results s k h (suc n) =
-    length_append (results s k h n) (result_of s (take 3 (drop (3 * n) k)) (h n))
+    length-append (results s k h n) (result_of s (take 3 (drop (3 * n) k)) (h n))
     ∙ ap (λ x. x + length (result_of s (take 3 (drop (3 * n) k)) (h n))) (length_results s k h n)
     ∙ ap (λ x. result_width s * n + x) (length_result s (take 3 (drop (3 * n) k)) (h n))
     ∙ sym (mul-suc (result_width s) n)

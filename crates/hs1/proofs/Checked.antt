@@ -2,7 +2,7 @@
 use Rattle.std.proofs.Common.{◌≡◌, ℕ, ◌-◌, ◌≤◌, Bool, true, false, not, ◌||◌, eqb, ltb, List, ◌++◌, length, take, drop, is_some, Some, None, Ok, Err, Option, Result, sym, refl, ap, ◌∙◌, append-nil, arith}
 use native.Mathlib.Nat.{sub-zero}
 use Rattle.std.proofs.lemmas.List.{drop_all}
-use Rattle.std.proofs.lemmas.Bool.{not_false, eqb-true, eq-eqb, le-ltb, or_from}
+use Rattle.std.proofs.lemmas.Bool.{not-false, eqb-true, eq-eqb, le-ltb, or_from}
 use Rattle.refusal.specs.declared.Refusal.{Refusal}
 use Rattle.refusal.specs.declared.Refusal.TheVariants.{WrongSiv, SivLength, ShortOutput}
 use Rattle.hash.specs.declared.Strength.{Strength}
@@ -30,7 +30,7 @@ passed false why e = refl
 passed true why e = let z : ◌≡◌ {A = ℕ} 0 1 = cc in absurd (omega arith)
 
 pub right_length : (a b : ℕ) (why : Refusal) → refuse_if (not (eqb a b)) why ≡ None → a ≡ b
-right_length a b why e = eqb-true a b (not_false (eqb a b) (passed (not (eqb a b)) why e))
+right_length a b why e = eqb-true a b (not-false (eqb a b) (passed (not (eqb a b)) why e))
 
 -- a buffer where the call was refused, and where its front was written
 pub refused_put : (o : Option Refusal) (why : Refusal) (bytes buffer : List ℕ) → o ≡ Some why → buffer ≡ put o bytes buffer

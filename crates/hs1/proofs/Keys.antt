@@ -1,7 +1,7 @@
 -- The subkeys of a key.
 use Rattle.std.proofs.Common.{◌≡◌, ℕ, zero, suc, ◌+◌, ◌-◌, ◌*◌, ◌/◌, ◌%◌, ◌^◌, ◌<◌, ◌≤◌, ◌⊎◌, List, [], ◌∷◌, ◌++◌, length, get_or, take, drop, replicate, sym, refl, ap, ◌∙◌, inl, inr, ⊎_elim, mod-eq_of_lt, suc-mul, zero-mul, arith}
 use native.Mathlib.Nat.{mod-eq-sub-mod, sub-zero}
-use Rattle.std.proofs.lemmas.List.{length_append, length-take-le, get_or_append_left, get_or_append_right, get_or-take, ext_get_or, take-replicate, drop-replicate, take-append-le, drop-append-le, length-drop}
+use Rattle.std.proofs.lemmas.List.{length-append, length-take-le, get_or_append_left, get_or-append_right, get_or-take, ext_get_or, take-replicate, drop-replicate, take-append-le, drop-append-le, length-drop}
 use Rattle.std.proofs.lemmas.Bool.{cases_lt}
 use Rattle.hash.specs.declared.Strength.{Strength}
 use Rattle.hash.specs.declared.Strength.TheVariants.{Lo, Mid, Hi}
@@ -20,7 +20,7 @@ use Rattle.hs1.specs.Derived.{Derived}
 pub length_repeated : (n : ℕ) (key : List ℕ) → length (repeated n key) ≡ n * length key
 length_repeated zero key = sym (zero-mul (length key))
 length_repeated (suc n) key =
-    let e = length_append key (repeated n key) in
+    let e = length-append key (repeated n key) in
     let f = length_repeated n key in
     omega (arith, suc-mul n (length key))
 
@@ -32,7 +32,7 @@ repeated_at (suc n) key i some lt =
     ⊎_elim
     (λ (h : i < l). get_or_append_left key (repeated n key) 0 i h ∙ ap (λ x. get_or key x 0) (sym (mod-eq_of_lt h)))
     (λ (h : l ≤ i).
-    get_or_append_right key (repeated n key) l i 0 refl h
+    get_or-append_right key (repeated n key) l i 0 refl h
     ∙ repeated_at n key (i - l) some (omega (arith, suc-mul n l))
     ∙ ap (λ x. get_or key x 0) (sym (mod-eq-sub-mod h)))
     (cases_lt i l)

@@ -1,6 +1,6 @@
 -- What the kind of settings shows of its lines.
 use Rattle.std.specs.Prelude.{◌≡◌, ℕ, suc, ◌+◌, ◌<◌, ◌≤◌, true, List, [], ◌∷◌, ◌++◌, length, ℤ, pos, negsuc, Some, None, codes, Option, ◌≢◌, unsigned_abs, refl}
-use Rattle.std.proofs.Common.{sym, ap, ◌∙◌, ⊎_elim, append_assoc, arith, length_append}
+use Rattle.std.proofs.Common.{sym, ap, ◌∙◌, ⊎_elim, append_assoc, arith, length-append}
 use Rattle.shape.specs.Decimal.{digits, figures, InRange}
 use Rattle.shape.specs.Form.{form, none, number, inner, written, Word, WellShaped}
 use Rattle.shape.proofs.Figures.{length_figures}

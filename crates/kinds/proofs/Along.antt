@@ -2,7 +2,7 @@
 use Rattle.std.proofs.Common.{◌≡◌, ℕ, ◌+◌, ◌-◌, ◌<◌, ◌≤◌, Bool, true, false, ◌⊎◌, List, [], ◌∷◌, ◌++◌, length, get_or, take, drop, set, is_some, Some, None, Option, sym, refl, ap, ◌∙◌, subst, ap₂, inl, inr, ⊎_elim, arith}
 use Rattle.std.specs.List.{AllByRecursion as All}
 use Rattle.std.proofs.ByRecursion.{All-get_or, All-more}
-use Rattle.std.proofs.lemmas.List.{take_all, drop_all, drop-drop, length-drop, get_or-drop, take-append-drop, take_more, take_more_set, drop_set_lt, drop_more, take_rest, length-take-le}
+use Rattle.std.proofs.lemmas.List.{take_all, drop_all, drop-drop, length-drop, get_or-drop, take-append-drop, take_more, take_more_set, drop-set-lt, drop_more, take_rest, length-take-le}
 use Rattle.kinds.specs.Limits.{most_items}
 use Rattle.kinds.specs.Text.{lines, onto, ColumnOf, Good, items_of, Reads, Faulty, FirstLine, NextLine}
 use Rattle.kinds.proofs.Cut.{lines_some}
@@ -93,7 +93,7 @@ module _ {X : Type 0} (reading : List ℕ → Option X) (t : List ℕ) where
         let in' : count < length xs = omega arith in
         let p = f xs e in (
           take_more_set now count x room ∙ ap (λ z. z ++ x ∷ []) p.0 ∙ ap (λ z. take count xs ++ z ∷ []) (sym y) ∙ sym (take_more xs count x in'),
-          drop_set_lt (count + 1) now count x (omega arith) ∙ (sym (drop-drop 1 count now) ∙ ap (drop 1) p.1 ∙ drop-drop 1 count before),
+          drop-set-lt (count + 1) now count x (omega arith) ∙ (sym (drop-drop 1 count now) ∙ ap (drop 1) p.1 ∙ drop-drop 1 count before),
         )
 
     pub filled_all : length t ≤ at → (xs : List X) → Reads reading t xs → now ≡ xs ++ drop (length xs) before

@@ -1,5 +1,5 @@
 -- The steps of measuring and writing a list item by item.
-use Rattle.std.proofs.Common.{◌≡◌, ℕ, ◌+◌, ◌-◌, ◌<◌, ◌≤◌, Bool, true, false, ◌⊎◌, List, [], ◌∷◌, ◌++◌, length, get_or, take, drop, Ok, Err, Result, sym, refl, ap, ◌∙◌, subst, inl, inr, ⊎_elim, append_assoc, arith, length_append}
+use Rattle.std.proofs.Common.{◌≡◌, ℕ, ◌+◌, ◌-◌, ◌<◌, ◌≤◌, Bool, true, false, ◌⊎◌, List, [], ◌∷◌, ◌++◌, length, get_or, take, drop, Ok, Err, Result, sym, refl, ap, ◌∙◌, subst, inl, inr, ⊎_elim, append_assoc, arith, length-append}
 use Rattle.std.specs.List.{flat_map, AllByRecursion as All}
 use Rattle.std.proofs.ByRecursion.{All-more}
 use Rattle.std.proofs.lemmas.List.{take_more, flat_map_more, take_all, get_or_default, at_drop_more, at_drop_all}
@@ -33,7 +33,7 @@ module _ {X : Type 0} (lawful : X → Bool) (line : X → List ℕ) (xs : List X
 
     module _ (good : lawful x ≡ true) (n : ℕ) (len : n ≡ length (line x)) (few : n ≤ longest_line) where
       longer : length (text_of line (take (i + 1) xs)) ≡ length (text_of line (take i xs)) + n
-      longer = ap length (text_more i x h is) ∙ length_append (text_of line (take i xs)) (line x) ∙ ap (λ m. length (text_of line (take i xs)) + m) (sym len)
+      longer = ap length (text_more i x h is) ∙ length-append (text_of line (take i xs)) (line x) ∙ ap (λ m. length (text_of line (take i xs)) + m) (sym len)
 
       goes : AllLawful lawful (take (i + 1) xs)
       goes = All-more (λ y. lawful y ≡ true) xs i x h inv.0 (ap lawful (sym is) ∙ good)

@@ -1,5 +1,5 @@
 -- Writing the bytes w over the front of a buffer, part after part.
-use Rattle.std.proofs.Common.{◌≡◌, ℕ, ◌+◌, ◌-◌, ◌<◌, ◌≤◌, List, [], ◌∷◌, ◌++◌, length, get_or, take, drop, set, sym, refl, ap, ◌∙◌, ap₂, append_assoc, arith, length_append}
+use Rattle.std.proofs.Common.{◌≡◌, ℕ, ◌+◌, ◌-◌, ◌<◌, ◌≤◌, List, [], ◌∷◌, ◌++◌, length, get_or, take, drop, set, sym, refl, ap, ◌∙◌, ap₂, append_assoc, arith, length-append}
 use borrow.Rule.Slice.PartMut.{put_mid}
 use Rattle.std.proofs.lemmas.List.{append-nil, take-append-drop, length-take-le, length-drop, take_all, drop_all, take_at, drop_at, drop-drop, drop_more, set_at}
 
@@ -17,7 +17,7 @@ module _ (w before out : List ℕ) (at : ℕ) where
   cut p rest e = sym (take-append-drop at w) ∙ ap (λ z. take at w ++ z) e ∙ sym (append_assoc (take at w) p rest)
 
   long : (p : List ℕ) → at ≤ length w → length (take at w ++ p) ≡ at + length p
-  long p h = length_append (take at w) p ∙ ap (λ n. n + length p) (length-take-le at w h)
+  long p h = length-append (take at w) p ∙ ap (λ n. n + length p) (length-take-le at w h)
 
   goes : (p rest : List ℕ) (n : ℕ) → at ≤ length w → n ≡ length p → drop at w ≡ p ++ rest → (take (at + n) w ≡ take at w ++ p) × (drop (at + n) w ≡ rest)
   goes p rest n h len e =
@@ -25,7 +25,7 @@ module _ (w before out : List ℕ) (at : ℕ) where
       (ap (take (at + n)) (cut p rest e) ∙ take_at (take at w ++ p) rest (at + n) l, ap (drop (at + n)) (cut p rest e) ∙ drop_at (take at w ++ p) rest (at + n) l)
 
   fits : (p rest : List ℕ) → at ≤ length w → drop at w ≡ p ++ rest → at + length p ≤ length w
-  fits p rest h e = omega (arith, ap length (cut p rest e), length_append (take at w ++ p) rest, long p h)
+  fits p rest h e = omega (arith, ap length (cut p rest e), length-append (take at w ++ p) rest, long p h)
 
   front : at ≤ length w → out ≡ take at w ++ drop at before → take at out ≡ take at w
   front h e = ap (take at) e ∙ take_at (take at w) (drop at before) at (length-take-le at w h)
@@ -34,7 +34,7 @@ module _ (w before out : List ℕ) (at : ℕ) where
   back h e = ap (drop at) e ∙ drop_at (take at w) (drop at before) at (length-take-le at w h)
 
   same_length : at ≤ length w → length w ≤ length before → out ≡ take at w ++ drop at before → length out ≡ length before
-  same_length h room e = ap length e ∙ length_append (take at w) (drop at before) ∙ omega (arith, length-take-le at w h, length-drop at before)
+  same_length h room e = ap length e ∙ length-append (take at w) (drop at before) ∙ omega (arith, length-take-le at w h, length-drop at before)
 
   -- there is room for the next part
   pub over_room : (p rest : List ℕ) → length w ≤ length before → Over w before out at (p ++ rest) → at + length p ≤ length out

@@ -1,7 +1,7 @@
 -- The values that make a line, found byte by byte of the pattern.
 use Rattle.std.proofs.Common.{◌≡◌, ℕ, zero, suc, ◌+◌, ◌-◌, ◌<◌, ◌≤◌, Bool, true, false, cond, not, ◌&&◌, ◌||◌, eqb, ltb, leb, ◌⊎◌, List, [], ◌∷◌, ◌++◌, length, get_or, take, drop, set, ℤ, Some, None, MatchBool, sym, refl, ap, ◌∙◌, subst, ap₂, inl, inr, ⊎_elim, append_assoc, arith}
 use Rattle.std.proofs.lemmas.List.{append-nil, drop_more, drop_all, drop-drop, drop_at, take_all, take-append-drop, take_more_set, length-drop}
-use Rattle.std.proofs.lemmas.Bool.{cond-true, cond-false, eq-eqb, ne_eqb, and_parts, and_from, both_ways, not_true, eqb-true, eqb-false, ltb-true, le-leb, or_right, false≢true, cases_Bool}
+use Rattle.std.proofs.lemmas.Bool.{cond-true, cond-false, eq-eqb, ne_eqb, and_parts, and_from, both_ways, not-true, eqb-true, eqb-false, ltb-true, le-leb, or_right, false≢true, cases_Bool}
 use Rattle.shape.specs.declared.value.Leading.{Leading}
 use Rattle.shape.specs.Decimal.{digits, InRange, LongestNumber, LeadsNumber}
 use Rattle.shape.specs.Form.{Digit}
@@ -21,14 +21,14 @@ fitting_number b p rs e f =
     let first = ltb 0 (length rs) && not (eqb (get_or p 0 0) 35) in
     let q = and_parts (cond (eqb b 35) first (not (figure b))) (fitting p (cond (eqb b 35) (drop 1 rs) rs)) f in
     let s = and_parts (ltb 0 (length rs)) (not (eqb (get_or p 0 0) 35)) (sym (cond-true (eqb b 35) first (not (figure b)) t) ∙ q.0) in
-    (ltb-true 0 (length rs) s.0, eqb-false (get_or p 0 0) 35 (not_true (eqb (get_or p 0 0) 35) s.1), ap (fitting p) (sym (cond-true (eqb b 35) (drop 1 rs) rs t)) ∙ q.1)
+    (ltb-true 0 (length rs) s.0, eqb-false (get_or p 0 0) 35 (not-true (eqb (get_or p 0 0) 35) s.1), ap (fitting p) (sym (cond-true (eqb b 35) (drop 1 rs) rs t)) ∙ q.1)
 
 pub fitting_byte : (b : ℕ) (p : List ℕ) (rs : List Range) → (b ≡ 35 → ⊥) → fitting (b ∷ p) rs ≡ true → (figure b ≡ false) × (fitting p rs ≡ true)
 fitting_byte b p rs e f =
     let t = ne_eqb b 35 e in
     let first = ltb 0 (length rs) && not (eqb (get_or p 0 0) 35) in
     let q = and_parts (cond (eqb b 35) first (not (figure b))) (fitting p (cond (eqb b 35) (drop 1 rs) rs)) f in
-    (not_true (figure b) (sym (cond-false (eqb b 35) first (not (figure b)) t) ∙ q.0), ap (fitting p) (sym (cond-false (eqb b 35) (drop 1 rs) rs t)) ∙ q.1)
+    (not-true (figure b) (sym (cond-false (eqb b 35) first (not (figure b)) t) ∙ q.0), ap (fitting p) (sym (cond-false (eqb b 35) (drop 1 rs) rs t)) ∙ q.1)
 
 -- no digit follows a number
 spelt_ends : (p : List ℕ) (rs : List Range) (vs : List ℤ) → (get_or p 0 0 ≡ 35 → ⊥) → fitting p rs ≡ true → Digit (get_or (spelt p vs) 0 0) → ⊥

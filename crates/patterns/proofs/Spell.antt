@@ -1,5 +1,5 @@
 -- The line that a pattern and values make, byte by byte of the pattern.
-use Rattle.std.proofs.Common.{◌≡◌, ℕ, zero, suc, ◌+◌, ◌-◌, ◌<◌, ◌≤◌, Bool, true, false, cond, ◌&&◌, eqb, ltb, leb, ◌⊎◌, List, [], ◌∷◌, ◌++◌, length, get_or, take, drop, ℤ, pos, nat_abs, Some, None, Option, unwrap_or, sym, refl, ap, ◌∙◌, subst, ap₂, inl, inr, ⊎_elim, arith, length_append}
+use Rattle.std.proofs.Common.{◌≡◌, ℕ, zero, suc, ◌+◌, ◌-◌, ◌<◌, ◌≤◌, Bool, true, false, cond, ◌&&◌, eqb, ltb, leb, ◌⊎◌, List, [], ◌∷◌, ◌++◌, length, get_or, take, drop, ℤ, pos, nat_abs, Some, None, Option, unwrap_or, sym, refl, ap, ◌∙◌, subst, ap₂, inl, inr, ⊎_elim, arith, length-append}
 use lib.Signed.{le_z}
 use Rattle.std.specs.List.{AllByRecursion as All}
 use Rattle.std.proofs.lemmas.List.{drop_more, drop_all, drop-drop, get_or_default}
@@ -57,7 +57,7 @@ pub record Piece (p : List ℕ) (vs : List ℤ) (i next size after : ℕ) : Type
 
 module _ (p : List ℕ) (vs : List ℤ) (i next size after : ℕ) (h : i < length p) where
   pub piece_number : get_or p i 0 ≡ 35 → size ≡ length (first_digits (drop next vs)) → after ≡ next + 1 → Piece p vs i next size after
-  piece_number e s a = record { uses = omega arith; long = ap length (next_number p vs i next h e) ∙ length_append (first_digits (drop next vs)) (spelt (drop (i + 1) p) (drop (next + 1) vs)) ∙ (rw (s, a) refl) }
+  piece_number e s a = record { uses = omega arith; long = ap length (next_number p vs i next h e) ∙ length-append (first_digits (drop next vs)) (spelt (drop (i + 1) p) (drop (next + 1) vs)) ∙ (rw (s, a) refl) }
 
   pub piece_byte : (get_or p i 0 ≡ 35 → ⊥) → size ≡ 1 → after ≡ next → Piece p vs i next size after
   piece_byte e s a = record { uses = omega arith; long = ap length (next_byte p vs i next h e) ∙ (rw (s, a) (omega arith)) }
@@ -130,7 +130,7 @@ spelt_width (b ∷ p) vs ks s = ⊎_elim (λ e. number e (spelt_width p (drop 1 
     number e h =
         let t = eq-eqb b 35 e in
         let w : width (b ∷ p) ks ≡ get_or ks 0 0 + width p (drop 1 ks) = ap₂ (λ x y. x + width p y) (cond-true (eqb b 35) (get_or ks 0 0) 1 t) (cond-true (eqb b 35) (drop 1 ks) ks t) in
-        omega (arith, w, ap length (spelt_number b p vs e), length_append (first_digits vs) (spelt p (drop 1 vs)), (short_first vs ks s).0)
+        omega (arith, w, ap length (spelt_number b p vs e), length-append (first_digits vs) (spelt p (drop 1 vs)), (short_first vs ks s).0)
 
     byte : (b ≡ 35 → ⊥) → length (spelt p vs) ≤ width p ks → length (spelt (b ∷ p) vs) ≤ width (b ∷ p) ks
     byte e h =

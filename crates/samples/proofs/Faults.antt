@@ -1,5 +1,5 @@
 -- Lines that are not well shaped: the steps by which their reader comes to the fault.
-use Rattle.std.proofs.Common.{◌≡◌, ℕ, ◌+◌, ◌-◌, ◌<◌, true, false, List, [], ◌∷◌, ◌++◌, length, take, Err, codes, refl, arith, length_append}
+use Rattle.std.proofs.Common.{◌≡◌, ℕ, ◌+◌, ◌-◌, ◌<◌, true, false, List, [], ◌∷◌, ◌++◌, length, take, Err, codes, refl, arith, length-append}
 use Rattle.std.proofs.lemmas.List.{take_at, drop_at, get_or_at}
 use Rattle.std.proofs.lemmas.Bool.Decides.{nat_tests}
 use Rattle.shape.specs.Form.{Letter, Digit, Word, Number, Forms, Tails}
@@ -24,7 +24,7 @@ after_word d w x deep is n o =
     let u = w ++ 32 ∷ x in
     let e : take (length w) u ≡ w = take_at w (32 ∷ x) (length w) refl in
     let run : Runs Letter most_letters u (length w) = record {
-      fits = simp length_append (omega arith);
+      fits = simp length-append (omega arith);
       few = is.1;
       all = rw e is.2;
       stops = λ _ _ c. let z : Letter 32 = rw (get_or_at w 32 x 0 (length w) refl) at c in omega arith;

@@ -1,5 +1,5 @@
 -- Hexadecimal digits and the bytes that they write.
-use Rattle.std.proofs.Common.{◌≡◌, ℕ, zero, suc, ◌+◌, ◌-◌, ◌*◌, ◌/◌, ◌%◌, ◌<◌, ◌≤◌, Bool, true, cond, ltb, ◌⊎◌, List, [], ◌∷◌, ◌++◌, length, get_or, take, replicate, Ok, Err, sym, refl, ap, ◌∙◌, ap₂, inl, inr, ⊎_elim, arith, length_append}
+use Rattle.std.proofs.Common.{◌≡◌, ℕ, zero, suc, ◌+◌, ◌-◌, ◌*◌, ◌/◌, ◌%◌, ◌<◌, ◌≤◌, Bool, true, cond, ltb, ◌⊎◌, List, [], ◌∷◌, ◌++◌, length, get_or, take, replicate, Ok, Err, sym, refl, ap, ◌∙◌, ap₂, inl, inr, ⊎_elim, arith, length-append}
 use Rattle.std.specs.List.{AllByRecursion as All}
 use Rattle.std.proofs.lemmas.List.{length-take-le, length-replicate}
 use Rattle.std.proofs.ByRecursion.{All-append}
@@ -79,7 +79,7 @@ module _ (allowed : ℕ → Bool) (most : ℕ) (top : allowed most ≡ true) (bo
   pub hex_munch : Munch (HexOf allowed) s n
   hex_munch =
       let pad = replicate (2 * most - n) 48 in
-      let e : length (take n s ++ pad) ≡ 2 * most = simp (length_append, length-replicate) (omega (arith, long, run.few)) in
+      let e : length (take n s ++ pad) ≡ 2 * most = simp (length-append, length-replicate) (omega (arith, long, run.few)) in
       record {
         fits = run.fits;
         begins = (pad, hex_token_is allowed most (take n s ++ pad) e (All-append HexDigit (take n s) pad run.all (all_zeros (2 * most - n))) top);

@@ -1,5 +1,5 @@
 -- How long headers and lines are.
-use Rattle.std.proofs.Common.{◌≡◌, ℕ, ◌+◌, ◌*◌, ◌^◌, ◌<◌, ◌≤◌, true, List, [], ◌∷◌, ◌++◌, length, replicate, sym, refl, ap, ◌∙◌, arith, length_append}
+use Rattle.std.proofs.Common.{◌≡◌, ℕ, ◌+◌, ◌*◌, ◌^◌, ◌<◌, ◌≤◌, true, List, [], ◌∷◌, ◌++◌, length, replicate, sym, refl, ap, ◌∙◌, arith, length-append}
 use Rattle.std.proofs.lemmas.List.{length-replicate}
 use Rattle.std.proofs.lemmas.Bool.Decides.{nat_tests}
 use Rattle.shape.specs.Decimal.{figures}
@@ -12,15 +12,15 @@ use Rattle.sealed.proofs.Pieces.{zero_bytes}
 
 pub length_header : (a b c : ℕ) → length (header_of a b c) ≡ 34 + length (figures a) + length (figures b) + length (figures c)
 unfolding header_of
-length_header a b c = simp length_append (omega arith)
+length_header a b c = simp length-append (omega arith)
 
 pub length_line : (p : Parts) → length (sealed_line p) ≡ length (header_of p.slot p.kind p.serial) + 16 + 2 * length p.siv + 2 * length p.text
 unfolding sealed_line rest_of
-length_line p = simp (length_append, length_append) (omega (arith, length_hex p.siv, length_hex p.text))
+length_line p = simp (length-append, length-append) (omega (arith, length_hex p.siv, length_hex p.text))
 
 pub length_rest : (siv text : List ℕ) → length (rest_of siv text) ≡ 16 + 2 * length siv + 2 * length text
 unfolding rest_of
-length_rest siv text = simp length_append (omega (arith, length_hex siv, length_hex text))
+length_rest siv text = simp length-append (omega (arith, length_hex siv, length_hex text))
 
 siv_most : (n : ℕ) → siv_length n ≡ true → n ≤ longest_siv
 siv_most n h = grind (arith, nat_tests)

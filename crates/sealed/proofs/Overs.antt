@@ -1,5 +1,5 @@
 -- Writing one part after another over a buffer.
-use Rattle.std.proofs.Common.{◌≡◌, ℕ, zero, suc, ◌+◌, ◌-◌, ◌*◌, ◌/◌, ◌%◌, ◌<◌, ◌≤◌, List, [], ◌∷◌, ◌++◌, length, get_or, take, drop, set, Some, None, Ok, Err, Option, sym, refl, ap, ◌∙◌, ap₂, append_assoc, arith, length_append}
+use Rattle.std.proofs.Common.{◌≡◌, ℕ, zero, suc, ◌+◌, ◌-◌, ◌*◌, ◌/◌, ◌%◌, ◌<◌, ◌≤◌, List, [], ◌∷◌, ◌++◌, length, get_or, take, drop, set, Some, None, Ok, Err, Option, sym, refl, ap, ◌∙◌, ap₂, append_assoc, arith, length-append}
 use Rattle.std.proofs.lemmas.List.{append-nil, take-append-drop, take_at, drop_at, drop-drop, drop_more, take_more, set_at, length_push, length-take-le, length-drop, take_all, drop_all}
 use Rattle.std.proofs.lemmas.Bool.{lt-ltb, le-ltb}
 use Rattle.refusal.specs.declared.Refusal.{Refusal}
@@ -13,7 +13,7 @@ pub over_none : (o : List ℕ) (at : ℕ) → o ≡ over o at []
 over_none o at = let z : at + 0 ≡ at = omega arith in rw z (sym (take-append-drop at o))
 
 pub length_over : (o : List ℕ) (at : ℕ) (w : List ℕ) → at + length w ≤ length o → length (over o at w) ≡ length o
-length_over o at w h = simp (length_append, length_append, length-drop) (omega (arith, length-take-le at o (omega arith)))
+length_over o at w h = simp (length-append, length-append, length-drop) (omega (arith, length-take-le at o (omega arith)))
 
 -- one byte more
 pub over_push : (o : List ℕ) (at : ℕ) (w : List ℕ) (n x : ℕ) → n ≡ at + length w → n < length o → set (over o at w) n x ≡ over o at (w ++ x ∷ [])
@@ -22,17 +22,17 @@ over_push o at w n x e h =
     let l : k < length o = omega arith in
     let m : at + length (w ++ x ∷ []) ≡ k + 1 = omega (arith, length_push w x) in
     let split : over o at w ≡ (take at o ++ w) ++ (get_or o k 0 ∷ drop (k + 1) o) = ap (λ z. take at o ++ (w ++ z)) (drop_more o k 0 l) ∙ sym (append_assoc (take at o) w (get_or o k 0 ∷ drop (k + 1) o)) in
-    let long : length (take at o ++ w) ≡ n = simp length_append (omega (arith, length-take-le at o (omega arith))) in
+    let long : length (take at o ++ w) ≡ n = simp length-append (omega (arith, length-take-le at o (omega arith))) in
     ap (λ z. set z n x) split ∙ set_at (take at o ++ w) (get_or o k 0) (drop (k + 1) o) x n long ∙ append_assoc (take at o) w (x ∷ drop (k + 1) o) ∙ ap (λ z. take at o ++ z) (sym (append_assoc w (x ∷ []) (drop (k + 1) o)) ∙ ap (λ i. (w ++ x ∷ []) ++ drop i o) (sym m))
 
 -- a part after a part
 pub over_over : (o : List ℕ) (at : ℕ) (w : List ℕ) (n : ℕ) (v : List ℕ) → n ≡ at + length w → n ≤ length o → over (over o at w) n v ≡ over o at (w ++ v)
 over_over o at w n v e h =
-    let long : length (take at o ++ w) ≡ n = simp length_append (omega (arith, length-take-le at o (omega arith))) in
+    let long : length (take at o ++ w) ≡ n = simp length-append (omega (arith, length-take-le at o (omega arith))) in
     let split : over o at w ≡ (take at o ++ w) ++ drop n o = ap (λ i. take at o ++ (w ++ drop i o)) (sym e) ∙ sym (append_assoc (take at o) w (drop n o)) in
     let front : take n (over o at w) ≡ take at o ++ w = ap (take n) split ∙ take_at (take at o ++ w) (drop n o) n long in
     let back : drop (n + length v) (over o at w) ≡ drop (n + length v) o = sym (drop-drop (length v) n (over o at w)) ∙ ap (λ z. drop (length v) z) (ap (drop n) split ∙ drop_at (take at o ++ w) (drop n o) n long) ∙ drop-drop (length v) n o in
-    let m : n + length v ≡ at + length (w ++ v) = omega (arith, length_append w v) in
+    let m : n + length v ≡ at + length (w ++ v) = omega (arith, length-append w v) in
     ap₂ (λ y z. y ++ (v ++ z)) front back ∙ append_assoc (take at o) w (v ++ drop (n + length v) o) ∙ ap (λ z. take at o ++ z) (sym (append_assoc w v (drop (n + length v) o)) ∙ ap (λ i. (w ++ v) ++ drop i o) m)
 
 -- the digits of one byte more

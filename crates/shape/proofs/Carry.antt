@@ -1,5 +1,5 @@
 -- From an answer for what is left after a part p to an answer for the whole, for any two sets of writings.
-use Rattle.std.proofs.Common.{◌≡◌, ℕ, ◌+◌, ◌<◌, ◌≤◌, List, [], ◌∷◌, ◌++◌, length, get_or, drop, Ok, Err, Result, sym, refl, ap, ◌∙◌, append_assoc, arith, length_append}
+use Rattle.std.proofs.Common.{◌≡◌, ℕ, ◌+◌, ◌<◌, ◌≤◌, List, [], ◌∷◌, ◌++◌, length, get_or, drop, Ok, Err, Result, sym, refl, ap, ◌∙◌, append_assoc, arith, length-append}
 use Rattle.std.proofs.lemmas.List.{append-nil, drop-drop, drop_more}
 use Rattle.std.proofs.lemmas.List.Prefix.{front_fits}
 use Rattle.shape.specs.Outcome.{Read, Fault, Outcome, shift, Carries}
@@ -23,7 +23,7 @@ module _ (G H : List ℕ → Type 0) (s p u : List ℕ) (n : ℕ) (split : s ≡
         front = p ++ o.front;
         back = o.back;
         cut = split ∙ ap (λ z. p ++ z) o.cut ∙ sym (append_assoc p o.front o.back);
-        long = simp length_append (omega (arith, o.long));
+        long = simp length-append (omega (arith, o.long));
         is = build o.front o.is;
       }
 
@@ -34,7 +34,7 @@ module _ (G H : List ℕ → Type 0) (s p u : List ℕ) (n : ℕ) (split : s ≡
         front = p ++ o.front;
         back = o.back;
         cut = split ∙ ap (λ z. p ++ z) o.cut ∙ sym (append_assoc p o.front o.back);
-        long = simp length_append (omega (arith, o.long));
+        long = simp length-append (omega (arith, o.long));
         more = o.more ++ z.0;
         can = simp append_assoc (simp append_assoc at z.1);
         stuck = λ b q w k r e g h.

@@ -1,5 +1,5 @@
 -- The column of a fault, for any set of lines.
-use Rattle.std.proofs.Common.{◌≡◌, ℕ, ◌+◌, ◌-◌, ◌<◌, ◌≤◌, List, [], ◌∷◌, ◌++◌, length, take, drop, sym, refl, ap, ◌∙◌, ⊎_elim, append_assoc, arith, length_append}
+use Rattle.std.proofs.Common.{◌≡◌, ℕ, ◌+◌, ◌-◌, ◌<◌, ◌≤◌, List, [], ◌∷◌, ◌++◌, length, take, drop, sym, refl, ap, ◌∙◌, ⊎_elim, append_assoc, arith, length-append}
 use Rattle.std.proofs.lemmas.List.{take-take, take-append-drop, take_at, length_push}
 use Rattle.std.proofs.lemmas.Bool.{cases_order}
 use Rattle.shape.specs.Column.{Front, Column, OneColumn}
@@ -23,13 +23,13 @@ module _ (P : List ℕ → Type 0) where
   -- the line in two parts: the first begins a line of P, and with the next byte it does not
   pub column_cut : (l front back : List ℕ) (n : ℕ) → l ≡ front ++ back → length front ≡ n → Front P front → ((b : ℕ) (q r : List ℕ) → back ≡ b ∷ q → P (front ++ b ∷ r) → ⊥) → Column P l (n + 1)
   column_cut l front back n cut long can stuck =
-      let few : n ≤ length l = omega (arith, ap length cut, length_append front back) in
+      let few : n ≤ length l = omega (arith, ap length cut, length-append front back) in
       let z : n + 1 - 1 ≡ n = omega arith in
       let e : take (n + 1 - 1) l ≡ front = rw (z, cut) (take_at front back n long) in
       column_next l (n + 1) (omega arith) (omega arith) (rw e can) (λ h g. no_next back cut stuck h g)
     where
       no_next : (back : List ℕ) → l ≡ front ++ back → ((b : ℕ) (q r : List ℕ) → back ≡ b ∷ q → P (front ++ b ∷ r) → ⊥) → n + 1 ≤ length l → Front P (take (n + 1) l) → ⊥
-      no_next [] cut stuck h g = omega (arith, ap length cut, length_append front [])
+      no_next [] cut stuck h g = omega (arith, ap length cut, length-append front [])
       no_next (b ∷ q) cut stuck h g =
           let e : take (n + 1) l ≡ front ++ b ∷ [] = ap (take (n + 1)) (cut ∙ sym (append_assoc front (b ∷ []) q)) ∙ take_at (front ++ b ∷ []) q (n + 1) (length_push front b ∙ ap (λ i. i + 1) long) in
           stuck b q g.0 refl (rw append_assoc at (rw e at g.1))

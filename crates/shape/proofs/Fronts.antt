@@ -1,5 +1,5 @@
 -- The number at the front of a text.
-use Rattle.std.proofs.Common.{◌≡◌, ℕ, zero, suc, ◌-◌, ◌<◌, ◌≤◌, ◌⊎◌, List, [], ◌∷◌, ◌++◌, length, get_or, take, drop, ℤ, Some, None, Ok, Err, sym, refl, ap, ◌∙◌, subst, inl, inr, ⊎_elim, arith, length_append}
+use Rattle.std.proofs.Common.{◌≡◌, ℕ, zero, suc, ◌-◌, ◌<◌, ◌≤◌, ◌⊎◌, List, [], ◌∷◌, ◌++◌, length, get_or, take, drop, ℤ, Some, None, Ok, Err, sym, refl, ap, ◌∙◌, subst, inl, inr, ⊎_elim, arith, length-append}
 use Rattle.std.proofs.lemmas.Bool.{cases_order}
 use Rattle.std.proofs.lemmas.List.{take_all, take_at, length-take-le, get_or-take, get_or-append-add}
 use Rattle.std.proofs.ByRecursion.{All-get_or}
@@ -13,7 +13,7 @@ use Rattle.shape.proofs.Signs.{digits_number, same_digits}
 -- the front part of a number is one, unless it is empty or a minus alone
 unsigned_front : (d : ℕ) (p r : List ℕ) → Unsigned (d ∷ (p ++ r)) → Unsigned (d ∷ p)
 unsigned_front d p r u =
-    let l = length_append p r in
+    let l = length-append p r in
     (omega arith, omega (arith, u.1), (u.2.0, all_front Digit p r u.2.1), λ e. omega (arith, u.3 e))
 
 begun : (p r : List ℕ) → Number (p ++ r) → (length p ≤ 1) ⊎ Number p
@@ -80,7 +80,7 @@ module _ (s : List ℕ) (z : ℤ) (rest : List ℕ) (h : InRange z) (cut : s ≡
   here = rw cut (take_at (digits z) rest (length (digits z)) refl)
 
   within : length (digits z) ≤ length s
-  within = omega (arith, ap length cut, length_append (digits z) rest)
+  within = omega (arith, ap length cut, length-append (digits z) rest)
 
   is_number : Number (take (length (digits z)) s)
   is_number = rw here (digits_number z h)

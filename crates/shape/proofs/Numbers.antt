@@ -1,5 +1,5 @@
 -- From runs of a class of bytes to tokens.
-use Rattle.std.proofs.Common.{◌≡◌, ℕ, suc, ◌+◌, ◌<◌, ◌≤◌, List, [], ◌∷◌, ◌++◌, length, get_or, take, Ok, Err, sym, refl, ap, ◌∙◌, inl, inr, ⊎_elim, append_assoc, one-add, arith, length_append}
+use Rattle.std.proofs.Common.{◌≡◌, ℕ, suc, ◌+◌, ◌<◌, ◌≤◌, List, [], ◌∷◌, ◌++◌, length, get_or, take, Ok, Err, sym, refl, ap, ◌∙◌, inl, inr, ⊎_elim, append_assoc, one-add, arith, length-append}
 use Rattle.std.specs.List.{AllByRecursion as All}
 use Rattle.std.proofs.lemmas.List.{append-nil, length-take-le, take_more, get_or-take, get_or_append_left}
 use Rattle.std.proofs.lemmas.Bool.{cases_eq, cases_lt}
@@ -19,7 +19,7 @@ module _ (s : List ℕ) (n : ℕ) (rest : List ℕ) (l : n < length s) where
   Grown = take (n + 1) s ++ rest
 
   pub grown_length : n + 1 ≤ length Grown
-  grown_length = simp length_append (omega (arith, length-take-le (n + 1) s (omega arith)))
+  grown_length = simp length-append (omega (arith, length-take-le (n + 1) s (omega arith)))
 
   pub grown_first : get_or Grown 0 0 ≡ get_or s 0 0
   grown_first = get_or_append_left (take (n + 1) s) rest 0 0 (omega (arith, length-take-le (n + 1) s (omega arith))) ∙ get_or-take (n + 1) s 0 0 (omega arith)

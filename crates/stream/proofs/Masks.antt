@@ -3,7 +3,7 @@ use Rattle.std.proofs.Common.{◌≡◌, ℕ, zero, suc, ◌+◌, ◌-◌, ◌*�
 use lib.Lanes.{zip2}
 use lib.Bits.{bit_xor, xor_assoc, xor_self, xor_zero_r}
 use borrow.Rule.Slice.PartMut.{put_mid}
-use Rattle.std.proofs.lemmas.List.{take_all, take_at, drop_at, drop_all, drop-drop, length-take-le, length-drop, length_append, take-append-drop, ext_get_or}
+use Rattle.std.proofs.lemmas.List.{take_all, take_at, drop_at, drop_all, drop-drop, length-take-le, length-drop, length-append, take-append-drop, ext_get_or}
 use Rattle.std.proofs.lemmas.Simd.{get_or-zip2, length-zip2}
 use Rattle.stream.specs.Stream.{run, masked}
 
@@ -57,7 +57,7 @@ module _ (f : ℕ → ℕ) where
   upto p was a = masked f p (take a was) ++ drop a was
 
   pub length_upto : (p : ℕ) (was : List ℕ) (a : ℕ) → length (upto p was a) ≡ length was
-  length_upto p was a = length_append (masked f p (take a was)) (drop a was) ∙ ap (λ n. n + length (drop a was)) (length_masked p (take a was)) ∙ sym (length_append (take a was) (drop a was)) ∙ ap length (take-append-drop a was)
+  length_upto p was a = length-append (masked f p (take a was)) (drop a was) ∙ ap (λ n. n + length (drop a was)) (length_masked p (take a was)) ∙ sym (length-append (take a was) (drop a was)) ∙ ap length (take-append-drop a was)
 
   -- one part more
   pub part_more : (was buf part : List ℕ) (p a n : ℕ) → a + n ≤ length was → buf ≡ upto p was a → part ≡ masked f (p + a) (take n (drop a buf)) → put_mid a n buf part ≡ upto p was (a + n)

@@ -1,4 +1,4 @@
-use Rattle.std.proofs.Common.{◌≡◌, ℕ, ◌+◌, ◌≤◌, List, [], ◌∷◌, ◌++◌, length, codes, sym, refl, ap, ◌∙◌, append_assoc, arith, length_append}
+use Rattle.std.proofs.Common.{◌≡◌, ℕ, ◌+◌, ◌≤◌, List, [], ◌∷◌, ◌++◌, length, codes, sym, refl, ap, ◌∙◌, append_assoc, arith, length-append}
 use Rattle.shape.specs.Decimal.{figures}
 use Rattle.sealed.specs.Line.{header_of}
 use Rattle.sealed.specs.Writes.{over}
@@ -45,11 +45,11 @@ returns c =
     let w₄ = w₃ ++ b in
     let w₅ = w₄ ++ codes ") (serial " in
     let w₆ = w₅ ++ d in
-    let l₂ : length w₂ ≡ 14 + length a = length_append w₁ a in
-    let l₃ : length w₃ ≡ 22 + length a = length_append w₂ (codes ") (kind ") ∙ omega arith in
-    let l₄ : length w₄ ≡ 22 + length a + length b = length_append w₃ b ∙ omega arith in
-    let l₅ : length w₅ ≡ 32 + length a + length b = length_append w₄ (codes ") (serial ") ∙ omega arith in
-    let l₆ : length w₆ ≡ 32 + length a + length b + length d = length_append w₅ d ∙ omega arith in
+    let l₂ : length w₂ ≡ 14 + length a = length-append w₁ a in
+    let l₃ : length w₃ ≡ 22 + length a = length-append w₂ (codes ") (kind ") ∙ omega arith in
+    let l₄ : length w₄ ≡ 22 + length a + length b = length-append w₃ b ∙ omega arith in
+    let l₅ : length w₅ ≡ 32 + length a + length b = length-append w₄ (codes ") (serial ") ∙ omega arith in
+    let l₆ : length w₆ ≡ 32 + length a + length b + length d = length-append w₅ d ∙ omega arith in
     let n₂ : c.put-figures-at.result ≡ length w₂ = c.put-figures-at.ensures.end ∙ omega (arith, n₁, ap length ea) in
     let n₃ : c.put-at-2.result ≡ length w₃ = c.put-at-2.ensures.end ∙ omega (arith, n₂) in
     let n₄ : c.put-figures-at-2.result ≡ length w₄ = c.put-figures-at-2.ensures.end ∙ omega (arith, n₃, ap length eb) in

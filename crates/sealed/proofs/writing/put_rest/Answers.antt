@@ -1,4 +1,4 @@
-use Rattle.std.proofs.Common.{◌≡◌, ℕ, ◌+◌, ◌*◌, ◌≤◌, List, [], ◌∷◌, ◌++◌, length, codes, sym, refl, ap, ◌∙◌, append_assoc, arith, length_append}
+use Rattle.std.proofs.Common.{◌≡◌, ℕ, ◌+◌, ◌*◌, ◌≤◌, List, [], ◌∷◌, ◌++◌, length, codes, sym, refl, ap, ◌∙◌, append_assoc, arith, length-append}
 use Rattle.sealed.specs.Hex.{hex_of}
 use Rattle.sealed.specs.Line.{rest_of}
 use Rattle.sealed.specs.Writes.{over}
@@ -37,9 +37,9 @@ returns c =
     let w₂ = w₁ ++ a in
     let w₃ = w₂ ++ codes ") (text " in
     let w₄ = w₃ ++ b in
-    let l₂ : length w₂ ≡ 5 + length a = length_append w₁ a in
-    let l₃ : length w₃ ≡ 13 + length a = length_append w₂ (codes ") (text ") ∙ omega arith in
-    let l₄ : length w₄ ≡ 13 + length a + length b = length_append w₃ b ∙ omega arith in
+    let l₂ : length w₂ ≡ 5 + length a = length-append w₁ a in
+    let l₃ : length w₃ ≡ 13 + length a = length-append w₂ (codes ") (text ") ∙ omega arith in
+    let l₄ : length w₄ ≡ 13 + length a + length b = length-append w₃ b ∙ omega arith in
     let n₁ : c.put-at.result ≡ at + length w₁ = c.put-at.ensures.end in
     let n₂ : c.put-hex-at.result ≡ at + length w₂ = c.put-hex-at.ensures.end ∙ omega (arith, n₁) in
     let n₃ : c.put-at-2.result ≡ at + length w₃ = c.put-at-2.ensures.end ∙ omega (arith, n₂) in

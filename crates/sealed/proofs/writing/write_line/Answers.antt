@@ -1,4 +1,4 @@
-use Rattle.std.proofs.Common.{◌≡◌, ◌+◌, ◌*◌, ◌≤◌, ◌++◌, length, sym, refl, ap, ◌∙◌, arith, length_append}
+use Rattle.std.proofs.Common.{◌≡◌, ◌+◌, ◌*◌, ◌≤◌, ◌++◌, length, sym, refl, ap, ◌∙◌, arith, length-append}
 use Rattle.sealed.specs.Line.{parts_in, header_of, rest_of, sealed_line}
 use Rattle.sealed.specs.Writes.{over}
 use Rattle.sealed.proofs.Lengths.{length_header, length_rest}
@@ -31,7 +31,7 @@ returns c =
     let head = header_of c.args.slot c.args.kind c.args.serial in
     let rest = rest_of c.args.siv.now c.args.text.now in
     let long : length (sealed_line p) ≤ length o = omega (arith, line_long p (passed _ _ _ h) (omega arith), c.figure-count.ensures.0, c.if-out-len.false) in
-    let cut : length (sealed_line p) ≡ length head + length rest = length_append head rest in
+    let cut : length (sealed_line p) ≡ length head + length rest = length-append head rest in
     let n₁ = c.put-header-at.ensures.end in
     let n₂ = c.put-rest.ensures.end in
     let after : c.put-rest.new.out ≡ over o 0 (sealed_line p) = put_more o _ _ 0 head rest _ (omega (arith, n₁)) (omega (arith, n₁)) c.put-header-at.ensures.after c.put-rest.ensures.after in
