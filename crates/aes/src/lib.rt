@@ -1,5 +1,7 @@
 //! AES-256 of FIPS 197, as a key stream in counter form.
 
+#![tactic(auto)]
+
 ghost use Rattle.std.specs.Prelude.{◌≡◌, ℕ, ◌+◌, ◌*◌, ◌/◌, ◌%◌, ◌<◌, ◌≤◌, ◌++◌, length, bit_xor};
 ghost use Rattle.std.specs.Simd.Lanes.{zip2};
 ghost use Rattle.aes.specs.Aes.{sub_bytes, shift_rows, mixed_byte, mix_columns, add_round_key, temp_byte, key_byte, expanded_key, encrypted, four_bytes, byte_under, aes_of};

@@ -3,6 +3,8 @@
 //! fast it was in bytes per second, the best of the runs, goes to standard
 //! error.
 
+#![tactic(auto)]
+
 use anyhow::anyhow;
 use chacha::ChaCha;
 use std::env;

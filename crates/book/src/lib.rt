@@ -1,5 +1,7 @@
 //! Eight key slots, and the book of calls by which it is said what they hold.
 
+#![tactic(auto)]
+
 mod key;
 
 ghost use Rattle.std.specs.Prelude.{◌≡◌, ℕ, ◌<◌, ◌≤◌, true, false, ◌&&◌, [], ◌∷◌, length, get_or, if◌then◌else◌, Some, None, MatchOption, slice_index_or};

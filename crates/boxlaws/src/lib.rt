@@ -1,6 +1,8 @@
 //! Short laws of the box, each on a function that goes through its calls, for
 //! every stream, kind and strength; and laws of the book that they rest on.
 
+#![tactic(auto)]
+
 ghost use Rattle.std.specs.Prelude.{◌≡◌, true, false, List, length, is_ok, Err};
 ghost use Rattle.refusal.specs.declared.Refusal.TheVariants.{StaleSerial};
 ghost use Rattle.book.specs.Book.{Call, opening, kind_of};

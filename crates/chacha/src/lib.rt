@@ -1,5 +1,7 @@
 //! ChaCha of RFC 8439 with 8, 12 or 20 rounds, as a key stream.
 
+#![tactic(auto)]
+
 ghost use Rattle.std.specs.Prelude.{◌≡◌, ℕ, ◌+◌, ◌*◌, ◌/◌, ◌%◌, ◌<◌, ◌≤◌, length, slice_index, slice_set};
 ghost use Rattle.std.specs.Simd.Lanes.{zip2};
 ghost use Rattle.chacha.specs.ChaCha.{line, quarter_round, double_round, mixed, start, serialised, add32, word_at, byte_at};

@@ -1,6 +1,8 @@
 //! Bytes as elements of the field of AES, and the entries of its S-box, each
 //! worked out at its use.
 
+#![tactic(auto)]
+
 ghost use Rattle.std.specs.Prelude.{◌≡◌};
 ghost use Rattle.field.specs.Field.{xtime, product, inverse as inverseOf, Inverse, affine as affineOf, sbox};
 

@@ -4,6 +4,8 @@
 //! t runs together. Header, text and their lengths pass through one block and
 //! are never joined in a buffer.
 
+#![tactic(auto)]
+
 ghost use Rattle.std.specs.Prelude.{◌≡◌, ℕ, ◌+◌, ◌-◌, ◌*◌, ◌/◌, ◌%◌, ◌^◌, ◌<◌, ◌≤◌, min, List, [], ◌++◌, length, take, drop, replicate, slice_index};
 ghost use Rattle.hash.specs.Strength.{hashes, siv_length, subkey_bytes};
 ghost use Rattle.hash.specs.Nh.{nh};

@@ -5,6 +5,8 @@
 //! SIV is the one that sealing gives. Nothing is kept between calls, no work
 //! buffer and no heap is used.
 
+#![tactic(auto)]
+
 ghost use Rattle.std.specs.Prelude.{◌≡◌, ℕ, ◌+◌, ◌-◌, ◌*◌, ◌/◌, ◌%◌, ◌^◌, ◌<◌, ◌≤◌, not, List, ◌++◌, length, take, replicate, if◌then◌else◌, None, bit_xor};
 ghost use Rattle.std.specs.Simd.Lanes.{zip2};
 ghost use Rattle.stream.specs.Stream.{places, masked};

@@ -1,6 +1,8 @@
 //! The kinds that there are. `docs/KINDS.md` has their lines and ranges, and
 //! says how a kind is added.
 
+#![tactic(auto)]
+
 mod job;
 mod setting;
 

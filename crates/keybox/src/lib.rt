@@ -1,5 +1,7 @@
 //! The box: a stream, a strength and eight key slots.
 
+#![tactic(auto)]
+
 mod calls;
 
 ghost use Rattle.std.specs.Prelude.{◌≡◌, ℕ, ◌≤◌, ◌&&◌, List, [], ◌∷◌, length, get_or, replicate, is_ok, if◌then◌else◌, Some, MatchResult, slice_index_or};

@@ -4,6 +4,8 @@
 //! is the lines of its items, joined. `docs/KINDS.md` has the kinds there are
 //! and how one is added.
 
+#![tactic(auto)]
+
 mod kind;
 mod text;
 mod tray;

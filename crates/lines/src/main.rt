@@ -4,6 +4,8 @@
 //! 0 for a well-shaped line, and then the bytes in hexadecimal, as words that are
 //! joined. A word `8*2031` stands for 2031 eight times.
 
+#![tactic(auto)]
+
 ghost use Rattle.std.specs.Prelude.{◌≡◌, ◌<◌, IfSome};
 ghost use Rattle.shape.specs.Column.{Column};
 ghost use Rattle.shape.specs.Form.{WellShaped};

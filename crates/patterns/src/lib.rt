@@ -2,6 +2,8 @@
 //! number, with a range for each. A kind's line is a pattern and its numbers:
 //! it is written, measured and read here, once for all kinds.
 
+#![tactic(auto)]
+
 ghost use Rattle.std.specs.Prelude.{◌≡◌, ℕ, ◌<◌, ◌≤◌, true, ◌++◌, length, drop, None, MatchBool};
 ghost use Rattle.kinds.specs.Kind.{Writes};
 ghost use Rattle.patterns.specs.Pattern.{AllInRange, FitsRoom, Makes, ReadsPattern, first_digits, fitting, in_ranges, spelt, within};

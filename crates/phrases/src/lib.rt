@@ -1,6 +1,8 @@
 //! The lines that the programs take and print, beside sealed lines and items.
 //! `docs/PROGRAMS.md` shows them in use.
 
+#![tactic(auto)]
+
 mod given;
 mod printed;
 

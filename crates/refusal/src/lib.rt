@@ -3,6 +3,8 @@
 //! A call that cannot do what it was asked answers with one of these and
 //! changes nothing but what its own contract names.
 
+#![tactic(auto)]
+
 ghost use Rattle.std.specs.Prelude.{◌≡◌};
 ghost use Rattle.refusal.specs.Number.{number_of};
 ghost use Rattle.refusal.specs.Party.{party_of};

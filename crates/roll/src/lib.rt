@@ -4,6 +4,8 @@
 //! a serial comes as a ticket that is spent by sealing. A ticket is moved, never
 //! copied, and only a roll makes one.
 
+#![tactic(auto)]
+
 mod ticket;
 
 ghost use Rattle.std.specs.Prelude.{◌≡◌, ℕ, ◌+◌, ◌<◌, ◌≤◌};

@@ -1,6 +1,8 @@
 //! Worked samples of what the contracts of the other crates speak of, proved
 //! to hold by the same definitions.
 
+#![tactic(auto)]
+
 ghost use Rattle.std.specs.Prelude.{◌≡◌, length};
 ghost use Rattle.std.specs.List.{AllByRecursion as All};
 ghost use Rattle.samples.specs.Samples.{Holds, table};

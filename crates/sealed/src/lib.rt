@@ -5,6 +5,8 @@
 //! here needs a key: a line that is read becomes an unchecked sheet, and only
 //! opening, which belongs to other crates, gives items.
 
+#![tactic(auto)]
+
 mod hex;
 mod unchecked;
 mod whole;

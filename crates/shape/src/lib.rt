@@ -4,6 +4,8 @@
 //! arguments with one space before each, `)`. An argument is a number or
 //! again a form. `docs/LINES.md` has the grammar and the column rule.
 
+#![tactic(auto)]
+
 mod scan;
 mod value;
 

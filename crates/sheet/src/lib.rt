@@ -4,6 +4,8 @@
 //! and slot, kind, serial, SIV and ciphertext make the sealed line.
 //! `docs/SHEETS.md` has the checks in their order.
 
+#![tactic(auto)]
+
 mod sealing;
 
 ghost use Rattle.std.specs.Prelude.{◌≡◌};

@@ -4,6 +4,8 @@
 //! hexadecimal (`-` for none), and what they must be read as: items by their
 //! words and numbers, or where the fault is.
 
+#![tactic(auto)]
+
 ghost use Rattle.std.specs.Prelude.{◌<◌, IfSome};
 
 use anyhow::anyhow;

@@ -1,6 +1,8 @@
 //! Key streams: the interface that all sealing is written against, and what
 //! can be said of any stream.
 
+#![tactic(auto)]
+
 ghost use Rattle.std.specs.Prelude.{◌≡◌, ℕ, ◌*◌, ◌<◌, List, length, bit_xor};
 ghost use Rattle.std.specs.Simd.Lanes.{zip2};
 ghost use Rattle.stream.specs.Stream.{StreamOf, Xored, run};

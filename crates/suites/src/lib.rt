@@ -2,6 +2,8 @@
 //! number and by name, and bare sealing and opening by suite number, for Rattle
 //! and for C.
 
+#![tactic(auto)]
+
 mod c;
 
 ghost use Rattle.std.specs.Prelude.{◌≡◌};

@@ -16,6 +16,8 @@
 //!
 //! A group's line on standard output says how many of its cases agree.
 
+#![tactic(auto)]
+
 mod bare;
 mod hex;
 

@@ -6,5 +6,5 @@ use Rattle.book.proofs.key.Key.new.Goals as goal
 pub returns : goal.returns
 returns c =
     let bytes = c.args.bytes.now in
-    let copied = c.copy-from-slice.ensures.after in
-    (and_from _ _ (lt-ltb 0 (length bytes) (omega arith)) (lt-ltb (length bytes) 33 (omega arith)), take_at c.copy-from-slice.new.self _ (length bytes) (ap length copied) ∙ copied)
+    let copied = c.copy_from_slice.ensures.after in
+    (and_from _ _ (lt-ltb 0 (length bytes) (omega arith)) (lt-ltb (length bytes) 33 (omega arith)), take_at c.copy_from_slice.new.self _ (length bytes) (ap length copied) ∙ copied)
