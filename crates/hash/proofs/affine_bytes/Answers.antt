@@ -12,7 +12,7 @@ returns c =
     let h = c.args.h in
     let low = get_or k 1 0 * (h % 2 ^ 32) in
     let high = get_or k 2 0 * (h / 2 ^ 32) in
-    c.to-le-bytes.ensures
+    c.to_le_bytes.ensures
     ∙ str_four _
     ∙ ap (λ x. str 4 (x / 2 ^ 32)) (affine_sum (get_or k 0 0) low high)
     ∙ str_wrapped (get_or k 0 0 + low + high)

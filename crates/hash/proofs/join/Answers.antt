@@ -12,7 +12,7 @@ loop-i-preserved c =
     let k = c.args.k.now in
     let i = c.loop-i.i in
     let n : (3 * i + 3) - 3 * i ≡ 3 = omega arith in
-    result_more c.args.strength k (λ j. get_or c.args.h.now j 0) i c.loop-i.out _ _ c.loop-i.invariant (ap (λ x. take x (drop (3 * i) k)) n) c.write-result.ensures
+    result_more c.args.strength k (λ j. get_or c.args.h.now j 0) i c.loop-i.out _ _ c.loop-i.invariant (ap (λ x. take x (drop (3 * i) k)) n) c.write_result.ensures
 
 pub returns : goal.returns
 returns c =

@@ -18,7 +18,7 @@ loop-i-preserved c =
     let d = c.loop-i.digits in
     let le = product_le w d c.loop-i.invariant.2 in (
       step c.loop-i.low c.loop-i.high w d ∙ c.loop-i.invariant.0,
-      digits_more d _ c.loop-i.-i c.loop-i.invariant.1,
+      digits_more d _ c.loop-i._i c.loop-i.invariant.1,
       omega arith,
       omega arith,
       omega arith,
@@ -27,7 +27,7 @@ loop-i-preserved c =
 pub returns : goal.returns
 unfolding turn
 returns c =
-    let n : c.loop-i.-i ≡ 20 = omega arith in
+    let n : c.loop-i._i ≡ 20 = omega arith in
     let k = c.args.k in
     let x = c.args.h * (k % 2 ^ 60) in
     folded c.loop-i.low c.loop-i.high

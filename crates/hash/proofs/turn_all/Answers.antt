@@ -20,8 +20,8 @@ loop-i-preserved c =
     let lt : i < length now = omega arith in
     let n = number_is keys words i c.nh_sum.result c.args.odd c.nh_sum.ensures in (
       length-set now i _ ∙ inv.0,
-      turns_more keys i (λ j. nh (nh_part keys j) words % 2 ^ 60 + c.args.odd) was now c.poly-step.result lt inv.1 inv.2 (c.poly-step.ensures ∙ ap (turn (poly_point keys i) (get_or now i 0)) n),
-      rest_more i was now c.poly-step.result inv.2,
+      turns_more keys i (λ j. nh (nh_part keys j) words % 2 ^ 60 + c.args.odd) was now c.poly_step.result lt inv.1 inv.2 (c.poly_step.ensures ∙ ap (turn (poly_point keys i) (get_or now i 0)) n),
+      rest_more i was now c.poly_step.result inv.2,
     )
 
 pub loop-i-init : goal.loop-i-init

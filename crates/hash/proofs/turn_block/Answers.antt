@@ -9,4 +9,4 @@ pub returns : goal.returns
 returns c =
     let keys = c.args.keys.now in
     let b = c.args.block.now in
-    turns_same keys c.args.t _ (λ i. block_number (nh_part keys i) b) _ _ (λ i. ap (λ x. nh (nh_part keys i) x % 2 ^ 60 + 0) c.read-words.ensures ∙ whole_number (nh_part keys i) b c.requires.1.0) c.turn-all.ensures
+    turns_same keys c.args.t _ (λ i. block_number (nh_part keys i) b) _ _ (λ i. ap (λ x. nh (nh_part keys i) x % 2 ^ 60 + 0) c.read_words.ensures ∙ whole_number (nh_part keys i) b c.requires.1.0) c.turn_all.ensures

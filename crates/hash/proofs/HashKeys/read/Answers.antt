@@ -15,7 +15,7 @@ returns c =
     let some = hashes_some s in
     let l : length bytes ≡ 368 = search rules in
     record {
-      words = read_front 4 (nh_words s) _ (4 * nh_words s) 32 32 bytes _ _ c.read-words.ensures (omega arith) (omega arith) (omega arith) (omega arith);
-      points = ap below60 (read_front 8 (hashes s) _ (8 * hashes s) (32 + 4 * (12 + 4 * t)) (32 + 4 * nh_words s) bytes _ _ c.read-numbers.ensures (omega arith) (omega arith) (omega arith) (omega arith));
-      scales = read_front 8 (3 * hashes s) _ (24 * hashes s) (32 + 4 * (12 + 4 * t) + 8 * t) (32 + 4 * nh_words s + 8 * hashes s) bytes _ _ c.read-numbers-2.ensures (omega arith) (omega arith) (omega arith) (omega arith);
+      words = read_front 4 (nh_words s) _ (4 * nh_words s) 32 32 bytes _ _ c.read_words.ensures (omega arith) (omega arith) (omega arith) (omega arith);
+      points = ap below60 (read_front 8 (hashes s) _ (8 * hashes s) (32 + 4 * (12 + 4 * t)) (32 + 4 * nh_words s) bytes _ _ c.read_numbers.ensures (omega arith) (omega arith) (omega arith) (omega arith));
+      scales = read_front 8 (3 * hashes s) _ (24 * hashes s) (32 + 4 * (12 + 4 * t) + 8 * t) (32 + 4 * nh_words s + 8 * hashes s) bytes _ _ c.read_numbers-2.ensures (omega arith) (omega arith) (omega arith) (omega arith);
     }

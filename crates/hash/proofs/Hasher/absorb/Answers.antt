@@ -12,9 +12,9 @@ loop-at-preserved c =
     let at = c.loop-at.at in
     let n = length-take (length part - at) (drop at part) in
     let d = length-drop at part in (
-      c.take-next-at.ensures.sound,
-      omega (arith, c.take-next-at.ensures.count.1),
-      pass_more c.args.keys.now c.args.t c.args.self.now c.loop-at.self _ part at _ c.loop-at.invariant.2 c.take-next-at.ensures.goes,
+      c.take_next-at.ensures.sound,
+      omega (arith, c.take_next-at.ensures.count.1),
+      pass_more c.args.keys.now c.args.t c.args.self.now c.loop-at.self _ part at _ c.loop-at.invariant.2 c.take_next-at.ensures.goes,
     )
 
 pub returns : goal.returns

@@ -7,4 +7,4 @@ returns c =
     let s = c.args.self.now in
     let fits = c.requires.1.fill_fits in
     let b : length s.block ≡ 64 = search rules in
-    last_turned c.args.keys.now c.args.t s c.turn-all.new.running _ _ (omega arith) fits (finish_words s c.read-words.new.out c.zero-filled-last.result fits (omega arith) c.zero-filled-last.ensures c.read-words.ensures) refl c.turn-all.ensures
+    last_turned c.args.keys.now c.args.t s c.turn_all.new.running _ _ (omega arith) fits (finish_words s c.read_words.new.out c.zero_filled-last.result fits (omega arith) c.zero_filled-last.ensures c.read_words.ensures) refl c.turn_all.ensures

@@ -5,7 +5,7 @@ use Rattle.hash.proofs.Hasher.flush.Goals as goal
 pub returns-then-self-eq-BLOCK : goal.returns-then-self-eq-BLOCK
 returns-then-self-eq-BLOCK c =
     record {
-      sound = record { fill_fits = omega arith; below = c.turn-block.ensures.below };
+      sound = record { fill_fits = omega arith; below = c.turn_block.ensures.below };
       room = omega arith;
-      goes = full_turned c.args.keys.now c.args.t c.args.self.now _ c.if-self-eq-BLOCK.true (search rules) refl c.turn-block.ensures;
+      goes = full_turned c.args.keys.now c.args.t c.args.self.now _ c.if-self-eq-BLOCK.true (search rules) refl c.turn_block.ensures;
     }

@@ -6,14 +6,14 @@ pub returns-then-part-gt-BLOCK : goal.returns-then-part-gt-BLOCK
 returns-then-part-gt-BLOCK c =
     record {
       count = omega arith;
-      sound = c.take-block.ensures.sound;
-      goes = pass_block c.args.keys.now c.args.t c.args.self.now _ _ c.args.part.now c.flush.ensures.goes c.take-block.ensures.goes (omega arith);
+      sound = c.take_block.ensures.sound;
+      goes = pass_block c.args.keys.now c.args.t c.args.self.now _ _ c.args.part.now c.flush.ensures.goes c.take_block.ensures.goes (omega arith);
     }
 
 pub returns-else-self-eq0 : goal.returns-else-self-eq0
 returns-else-self-eq0 c =
     record {
-      count = omega (arith, c.flush.ensures.room, c.take-some.ensures.count);
-      sound = c.take-some.ensures.sound;
-      goes = pass_some c.args.keys.now c.args.t c.args.self.now _ _ c.args.part.now _ c.flush.ensures.goes (c.take-some.ensures.goes c.args.keys.now c.args.t) (omega arith);
+      count = omega (arith, c.flush.ensures.room, c.take_some.ensures.count);
+      sound = c.take_some.ensures.sound;
+      goes = pass_some c.args.keys.now c.args.t c.args.self.now _ _ c.args.part.now _ c.flush.ensures.goes (c.take_some.ensures.goes c.args.keys.now c.args.t) (omega arith);
     }

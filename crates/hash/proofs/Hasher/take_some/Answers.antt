@@ -11,8 +11,8 @@ returns c =
     let s = c.args.self.now in
     let n = c.min-count.result in
     let part = c.args.part.now in
-    let ys = c.copy-from-slice.new.self in
-    let e : ys ≡ take n part = c.copy-from-slice.ensures.after ∙ ap (λ x. take x part) (sub-zero n) in
+    let ys = c.copy_from_slice.new.self in
+    let e : ys ≡ take n part = c.copy_from_slice.ensures.after ∙ ap (λ x. take x part) (sub-zero n) in
     let l : length ys ≡ n = ap length e ∙ length-take-le n part (omega (arith, c.min-count.ensures)) in
     let b : length s.block ≡ 64 = search rules in
     record {

@@ -16,17 +16,17 @@ returns-then-text-eq45 c =
     let n = c.in-Ok.len in
     let t = c.in-Ok.ensures in
     let p = minus_part s n t c.if-text-eq45.true in
-    let v = c.figures-value-size.ensures in
-    let z = not_zero _ c.figures-value-size.result v.1 p.1 in
-    let b = below_zero c.figures-value-size.result z v.0 in
+    let v = c.figures_value-size.ensures in
+    let z = not_zero _ c.figures_value-size.result v.1 p.1 in
+    let b = below_zero c.figures_value-size.result z v.0 in
     let P : ℤ → Type 0 = λ y. LongestNumber s y n in
-    subst P (sym (negated c.figures-value-size.result z v.0)) (leads s n t _ b.0 (p.2 ∙ ap (λ x. 45 ∷ x) v.1 ∙ b.1))
+    subst P (sym (negated c.figures_value-size.result z v.0)) (leads s n t _ b.0 (p.2 ∙ ap (λ x. 45 ∷ x) v.1 ∙ b.1))
 
 pub returns : goal.returns
 returns c =
     let s = c.args.text.now in
     let n = c.in-Ok.len in
-    let v = c.figures-value-size-2.ensures in
+    let v = c.figures_value-size-2.ensures in
     let P : ℤ → Type 0 = λ y. LongestNumber s y n in
     let k : n - 0 ≡ n = omega arith in
-    subst P (sym (same_size c.figures-value-size-2.result v.0)) (leads s n c.in-Ok.ensures _ v.0 (ap (λ m. take m s) (sym k) ∙ v.1))
+    subst P (sym (same_size c.figures_value-size-2.result v.0)) (leads s n c.in-Ok.ensures _ v.0 (ap (λ m. take m s) (sym k) ∙ v.1))
