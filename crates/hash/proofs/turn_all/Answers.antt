@@ -6,8 +6,8 @@ use Rattle.hash.specs.Hasher.{nh_part, poly_point}
 use Rattle.hash.proofs.Turns.{turns_more, rest_more, number_is}
 use Rattle.hash.proofs.turn_all.Goals as goal
 
-pub poly-step-requires : goal.poly-step-requires
-poly-step-requires c = omega (arith, c.loop-i.invariant.1.below c.loop-i.i)
+pub poly_step-requires : goal.poly_step-requires
+poly_step-requires c = omega (arith, c.loop-i.invariant.1.below c.loop-i.i)
 
 pub loop-i-preserved : goal.loop-i-preserved
 loop-i-preserved c =

@@ -54,8 +54,8 @@ arguments-returns-then-depth-eq0 t c =
     let none : c.in-Err.part ≡ 0 = omega arith in
     c.loop-at.invariant.1 (Err 1) (args_deep d (drop at s) u space (rw none at m) c.if-depth-eq0.true)
 
-pub arguments-overflow-add-at-in-Ok-form : goal.arguments-overflow-add-at-in-Ok-form
-arguments-overflow-add-at-in-Ok-form t c =
+pub arguments-overflow_add-at-in-Ok-form : goal.arguments-overflow_add-at-in-Ok-form
+arguments-overflow_add-at-in-Ok-form t c =
     let s = c.args.s.now in
     let i : Read (Forms c.args.depth) (drop (c.loop-at.at + 1) s) c.in-Ok-form.n = rw take_rest at c.in-Ok-form.ensures in
     omega (arith, read_fits _ _ _ i, length-drop (c.loop-at.at + 1) s)
@@ -70,8 +70,8 @@ arguments-loop-at-preserved t c =
     let i : Read (Forms d) u c.in-Ok-form.n = rw take_rest at c.in-Ok-form.ensures in
     (omega (arith, read_fits _ _ _ i, length-drop (at + 1) s), carries_more (Tails d) s at _ _ (omega arith) c.loop-at.invariant.1 (args_inner d (drop at s) u space _ i))
 
-pub arguments-overflow-add-result-in-Err-form : goal.arguments-overflow-add-result-in-Err-form
-arguments-overflow-add-result-in-Err-form t c =
+pub arguments-overflow_add-result-in-Err-form : goal.arguments-overflow_add-result-in-Err-form
+arguments-overflow_add-result-in-Err-form t c =
     let s = c.args.s.now in
     let i : Fault (Forms c.args.depth) (drop (c.loop-at.at + 1) s) c.in-Err-form.n = rw take_rest at c.in-Err-form.ensures in
     omega (arith, fault_fits _ _ _ i, length-drop (c.loop-at.at + 1) s)
@@ -109,14 +109,14 @@ form-returns-then-word-eq0 t c =
     let m = word_munch (drop 1 s) 0 (rw c.if-word-eq0.true at run) in
     form_wordless c.args.depth c.requires s (drop 1 s) (drop_byte s 0 40 (omega arith) c.if-s-ne40.false) 0 m (λ w. omega (arith, w.0))
 
-pub form-overflow-add-result : goal.form-overflow-add-result
-form-overflow-add-result t c =
+pub form-overflow_add-result : goal.form-overflow_add-result
+form-overflow_add-result t c =
     let s = c.args.s.now in
     let i : Read (Tails (c.args.depth - 1)) (drop (1 + c.run-word.result) s) c.in-Ok.n = rw take_rest at c.in-Ok.ensures in
     omega (arith, read_fits _ _ _ i, length-drop (1 + c.run-word.result) s)
 
-pub form-overflow-add-result-in-Err : goal.form-overflow-add-result-in-Err
-form-overflow-add-result-in-Err t c =
+pub form-overflow_add-result-in-Err : goal.form-overflow_add-result-in-Err
+form-overflow_add-result-in-Err t c =
     let s = c.args.s.now in
     let i : Fault (Tails (c.args.depth - 1)) (drop (1 + c.run-word.result) s) c.in-Err.n = rw take_rest at c.in-Err.ensures in
     omega (arith, fault_fits _ _ _ i, length-drop (1 + c.run-word.result) s)

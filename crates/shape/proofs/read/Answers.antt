@@ -10,8 +10,8 @@ use Rattle.shape.proofs.read.Goals.{then-n-line-via-then-n-line, then-n-line-via
 pub bounds-line-n : goal.bounds-line-n
 bounds-line-n c = omega (arith, read_fits _ _ _ c.in-Ok.ensures)
 
-pub overflow-add-result : goal.overflow-add-result
-overflow-add-result c = omega (arith, read_fits _ _ _ c.in-Ok.ensures)
+pub overflow_add-result : goal.overflow_add-result
+overflow_add-result c = omega (arith, read_fits _ _ _ c.in-Ok.ensures)
 
 pub returns-then-n-line : goal.returns-then-n-line
 returns-then-n-line c =
@@ -21,15 +21,15 @@ returns-then-n-line c =
     ] in
     record { verdict = verdict_other c.args.line.now c.in-Ok.n c.in-Ok.ensures other; unique = (unique, one_column WellShaped) }
 
-pub overflow-add-n : goal.overflow-add-n
-overflow-add-n c = omega (arith, read_fits _ _ _ c.in-Ok.ensures)
+pub overflow_add-n : goal.overflow_add-n
+overflow_add-n c = omega (arith, read_fits _ _ _ c.in-Ok.ensures)
 
 pub returns-then-n-line-2 : goal.returns-then-n-line-2
 returns-then-n-line-2 c =
     record { verdict = verdict_long c.args.line.now c.in-Ok.n c.in-Ok.ensures (omega arith) c.if-line-n-ne10.false c.if-n-line-2.true; unique = (unique, one_column WellShaped) }
 
-pub overflow-add-result-in-Err : goal.overflow-add-result-in-Err
-overflow-add-result-in-Err c = omega (arith, fault_fits _ _ _ c.in-Err.ensures)
+pub overflow_add-result-in-Err : goal.overflow_add-result-in-Err
+overflow_add-result-in-Err c = omega (arith, fault_fits _ _ _ c.in-Err.ensures)
 
 pub returns-else-n-line-2 : goal.returns-else-n-line-2
 returns-else-n-line-2 c =

@@ -19,7 +19,7 @@ step f was buf part block p a n lt le e same is b z =
 
 pub loop-at-preserved : goal.loop-at-preserved
 loop-at-preserved g c =
-    step (g.B.Blocks.byte c.args.blocks.now) c.args.buf.now c.loop-at.buf _ _ c.args.place c.loop-at.at c.min-n.result (omega arith) c.loop-at.invariant.0 c.loop-at.invariant.1 c.loop-at.auto.buf c.min-n.ensures c.block-block.ensures c.xor-bytes.ensures
+    step (g.B.Blocks.byte c.args.blocks.now) c.args.buf.now c.loop-at.buf _ _ c.args.place c.loop-at.at c.min-n.result (omega arith) c.loop-at.invariant.0 c.loop-at.invariant.1 c.loop-at.auto.buf c.min-n.ensures c.block-block.ensures c.xor_bytes.ensures
 
 pub returns : goal.returns
 returns g c =

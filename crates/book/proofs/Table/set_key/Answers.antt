@@ -17,10 +17,10 @@ returns-then-slot-ge-SLOTS c =
       noted = λ seal. refused_set seal _ c.args.slot c.args.key.now f;
     }
 
-pub returns-in-default : goal.returns-in-default
-returns-in-default c =
+pub returns-in_default : goal.returns-in_default
+returns-in_default c =
     let t = lt-ltb c.args.slot 8 (omega arith) in
-    let g : good_key c.args.key.now ≡ false = c.in-default.ensures in
+    let g : good_key c.args.key.now ≡ false = c.in_default.ensures in
     let f : (s : ℕ) → (good_key c.args.key.now && hits c.args.slot s) ≡ false = λ s. and_left _ _ g in
     record {
       answer = rw (t, g) refl;

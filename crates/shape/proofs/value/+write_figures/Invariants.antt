@@ -1,4 +1,4 @@
 use Rattle.shape.proofs.value.+write_figures.Given as goal
 
-abbrev pub decreases-write-figures : goal.decreases-write_figures
-decreases-write-figures l = l.n
+abbrev pub decreases-write_figures : goal.decreases-write_figures
+decreases-write_figures l = l.n

@@ -4,11 +4,11 @@ use Rattle.shape.proofs.Signs.{not_zero, below_zero, negated, same_size}
 use Rattle.shape.proofs.Fronts.{none_leads, minus_part, leads}
 use Rattle.shape.proofs.value.leading_number.Goals as goal
 
-pub returns-in-default : goal.returns-in-default
-returns-in-default c = none_leads c.args.text.now c.in-default.field-0 c.in-default.ensures
+pub returns-in_default : goal.returns-in_default
+returns-in_default c = none_leads c.args.text.now c.in_default.field-0 c.in_default.ensures
 
-pub figures-value-size-requires : goal.figures-value-size-requires
-figures-value-size-requires c = (minus_part c.args.text.now c.in-Ok.len c.in-Ok.ensures c.if-text-eq45.true).0
+pub figures_value-size-requires : goal.figures_value-size-requires
+figures_value-size-requires c = (minus_part c.args.text.now c.in-Ok.len c.in-Ok.ensures c.if-text-eq45.true).0
 
 pub returns-then-text-eq45 : goal.returns-then-text-eq45
 returns-then-text-eq45 c =
