@@ -9,12 +9,12 @@ loop-i-init c = (
   search (rules, places),
   λ n e.
       let z : 0 ≡ n = omega arith in
-      take_at c.copy-from-slice.new.self _ 32 c.copy-from-slice.ensures.len ∙ c.copy-from-slice.ensures.after ∙ ap (grown c.args.key.now) z,
+      take_at c.copy_from_slice.new.self _ 32 c.copy_from_slice.ensures.len ∙ c.copy_from_slice.ensures.after ∙ ap (grown c.args.key.now) z,
 )
 
 pub loop-i-preserved : goal.loop-i-preserved
 loop-i-preserved c =
-    (search rules, word_more c.args.key.now c.loop-i.w c.loop-i.i _ _ _ _ (omega arith) (omega arith) c.loop-i.invariant.1 c.key-byte-a.ensures c.key-byte-b.ensures c.key-byte-c.ensures c.key-byte-d.ensures)
+    (search rules, word_more c.args.key.now c.loop-i.w c.loop-i.i _ _ _ _ (omega arith) (omega arith) c.loop-i.invariant.1 c.key_byte-a.ensures c.key_byte-b.ensures c.key_byte-c.ensures c.key_byte-d.ensures)
 
 pub returns : goal.returns
 unfolding expanded_key

@@ -4,4 +4,4 @@ use Rattle.chacha.proofs.mix.Goals as goal
 
 pub returns : goal.returns
 unfolding line rotl
-returns c = ap (set _ c.args.d) c.rotate-left.ensures
+returns c = ap (set _ c.args.d) c.rotate_left.ensures

@@ -3,4 +3,4 @@ use Rattle.chacha.specs.ChaCha.{double_rounds}
 use Rattle.chacha.proofs.permute.Given as goal
 
 abbrev pub invariant-loop-i : goal.invariant-loop-i
-invariant-loop-i l = l.s ≡ double_rounds l.-i l.start
+invariant-loop-i l = l.s ≡ double_rounds l._i l.start

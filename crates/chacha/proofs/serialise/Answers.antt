@@ -9,7 +9,7 @@ loop-j-preserved c =
     let s = c.args.s.now in
     let j = c.loop-j.j in
     let lt : j < length s = omega arith in
-    write_more s (replicate 64 0) c.loop-j.out j _ _ _ _ lt (search rules) c.loop-j.invariant (rw c.to-le-bytes.ensures refl)
+    write_more s (replicate 64 0) c.loop-j.out j _ _ _ _ lt (search rules) c.loop-j.invariant (rw c.to_le_bytes.ensures refl)
 
 pub returns : goal.returns
 returns c =

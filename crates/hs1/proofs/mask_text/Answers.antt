@@ -5,4 +5,4 @@ pub returns : goal.returns
 returns g c key d =
     let f = g.S.Stream.meaning c.args.stream.now in
     let s = c.args.strength in
-    under_from f s key c.args.nonce.now c.args.iv.now _ c.args.text.now _ (seed_from f s key c.args.keys.now _ _ _ d c.hash-hashed.ensures c.xor-32-seed.ensures) c.mask.ensures
+    under_from f s key c.args.nonce.now c.args.iv.now _ c.args.text.now _ (seed_from f s key c.args.keys.now _ _ _ d c.hash-hashed.ensures c.xor_32-seed.ensures) c.mask.ensures

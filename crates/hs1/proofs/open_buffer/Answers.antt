@@ -5,13 +5,13 @@ use Rattle.hs1.proofs.Keys.{siv_short}
 use Rattle.hs1.proofs.Sealing.{compared, opens_there}
 use Rattle.hs1.proofs.open_buffer.Goals as goal
 
-pub same-bytes-good-requires : goal.same-bytes-good-requires
-same-bytes-good-requires g c =
+pub same_bytes-good-requires : goal.same_bytes-good-requires
+same_bytes-good-requires g c =
     let s = c.args.strength in
     let i = iv_length s (length c.args.key.now) (length c.args.nonce.now) (length c.args.header.now) (length c.args.buf.now) (length c.args.iv.now) c.requires in
-    let l : length c.siv-bytes-again.result ≡ 32 = search rules in
+    let l : length c.siv_bytes-again.result ≡ 32 = search rules in
     let short = siv_short s in
-    let n = c.siv-len.ensures in
+    let n = c.siv_len.ensures in
     simp length-take (omega arith)
 
 pub returns : goal.returns
@@ -23,6 +23,6 @@ returns g c =
     let header = c.args.header.now in
     let iv = c.args.iv.now in
     let cipher = c.args.buf.now in
-    let d = c.derive-keys-keys.ensures in
-    let h = compared f s key nonce _ header iv cipher c.mask-text.new.text c.siv-bytes-again.result _ c.same-bytes-good.result c.nonce-12-nonce.ensures (c.mask-text.ensures key d) (c.siv-bytes-again.ensures key d) c.siv-len.ensures c.same-bytes-good.ensures in
-    opens_there f s key nonce header iv cipher _ _ _ h c.keep-if.ensures
+    let d = c.derive_keys-keys.ensures in
+    let h = compared f s key nonce _ header iv cipher c.mask_text.new.text c.siv_bytes-again.result _ c.same_bytes-good.result c.nonce_12-nonce.ensures (c.mask_text.ensures key d) (c.siv_bytes-again.ensures key d) c.siv_len.ensures c.same_bytes-good.ensures in
+    opens_there f s key nonce header iv cipher _ _ _ h c.keep_if.ensures

@@ -4,10 +4,10 @@ use Rattle.hs1.proofs.Checked.{some_from_err, refused_opens, or_first, passed_si
 use Rattle.hs1.proofs.Sealing.{length_cleared}
 use Rattle.hs1.proofs.open_in_place.Goals as goal
 
-pub returns-in-err-check-inputs : goal.returns-in-err-check-inputs
-returns-in-err-check-inputs g c =
-    let p = err_from_is_err_and c.from-residual.result c.from-residual.ensures.1 in
-    refused_opens _ _ _ _ _ _ (or_first _ _ _ (some_from_err _ _ (sym c.in-err-check-inputs.ensures))) (p.1 ∙ ap Err p.2)
+pub returns-in_err-check_inputs : goal.returns-in_err-check_inputs
+returns-in_err-check_inputs g c =
+    let p = err_from_is_err_and c.from_residual.result c.from_residual.ensures.1 in
+    refused_opens _ _ _ _ _ _ (or_first _ _ _ (some_from_err _ _ (sym c.in_err-check_inputs.ensures))) (p.1 ∙ ap Err p.2)
 
 pub returns : goal.returns
 returns g c =
@@ -18,5 +18,5 @@ returns g c =
     let header = c.args.header.now in
     let iv = c.args.iv.now in
     let cipher = c.args.buf.now in
-    let z = passed_siv s (length key) (length nonce) (length header) (length cipher) (length iv) _ c.in-ok-check-inputs.ensures c.siv-len.ensures (omega arith) in
-    granted_opens _ _ (length cipher) cipher _ _ _ _ z c.open-buffer-good.ensures (whole_put _ _ cipher _ z (length_cleared f s key nonce header iv cipher)) c.verdict.ensures
+    let z = passed_siv s (length key) (length nonce) (length header) (length cipher) (length iv) _ c.in_ok-check_inputs.ensures c.siv_len.ensures (omega arith) in
+    granted_opens _ _ (length cipher) cipher _ _ _ _ z c.open_buffer-good.ensures (whole_put _ _ cipher _ z (length_cleared f s key nonce header iv cipher)) c.verdict.ensures

@@ -9,9 +9,9 @@ returns g c =
     let nonce = c.args.nonce.now in
     let header = c.args.header.now in
     let text = c.args.text.now in
-    let d = c.derive-keys-keys.ensures in
-    let iv = c.siv-bytes-iv.ensures key d in
+    let d = c.derive_keys-keys.ensures in
+    let iv = c.siv_bytes-iv.ensures key d in
     record {
-      siv = sealed_siv f s key nonce _ header text _ c.nonce-12-nonce.ensures iv;
-      text = sealed_text f s key nonce _ header text _ _ _ c.nonce-12-nonce.ensures iv c.siv-len.ensures (c.mask-text.ensures key d);
+      siv = sealed_siv f s key nonce _ header text _ c.nonce_12-nonce.ensures iv;
+      text = sealed_text f s key nonce _ header text _ _ _ c.nonce_12-nonce.ensures iv c.siv_len.ensures (c.mask_text.ensures key d);
     }

@@ -6,10 +6,10 @@ use Rattle.hs1.proofs.Checked.{none_from_ok, some_from_err, refused_seals, grant
 use Rattle.hs1.proofs.Sealing.{length_siv, length_ciphertext}
 use Rattle.hs1.proofs.seal_in_place.Goals as goal
 
-pub returns-in-err-check-inputs : goal.returns-in-err-check-inputs
-returns-in-err-check-inputs g c =
-    let p = err_from_is_err_and c.from-residual.result c.from-residual.ensures.1 in
-    refused_seals _ _ _ _ _ _ _ _ _ _ _ (some_from_err _ _ (sym c.in-err-check-inputs.ensures)) (p.1 ∙ ap Err p.2)
+pub returns-in_err-check_inputs : goal.returns-in_err-check_inputs
+returns-in_err-check_inputs g c =
+    let p = err_from_is_err_and c.from_residual.result c.from_residual.ensures.1 in
+    refused_seals _ _ _ _ _ _ _ _ _ _ _ (some_from_err _ _ (sym c.in_err-check_inputs.ensures)) (p.1 ∙ ap Err p.2)
 
 pub returns : goal.returns
 returns g c =
@@ -19,11 +19,11 @@ returns g c =
     let nonce = c.args.nonce.now in
     let header = c.args.header.now in
     let text = c.args.text.now in
-    let e = c.in-ok-check-inputs.ensures in
+    let e = c.in_ok-check_inputs.ensures in
     let z = none_from_ok _ (sym e) in
-    let n = sub-zero c.siv-len-len.result ∙ c.siv-len-len.ensures in
+    let n = sub-zero c.siv_len-len.result ∙ c.siv_len-len.ensures in
     record {
       answer_is = e;
-      siv_is = granted_put _ (siv f s key nonce header text) _ _ _ z (c.copy-from-slice.ensures.after ∙ ap (λ x. take x c.seal-buffer-iv.result) n ∙ c.seal-buffer-iv.ensures.siv) (n ∙ sym (length_siv f s key nonce header text));
-      out_is = whole_put _ _ text _ z (length_ciphertext f s key nonce header text) c.seal-buffer-iv.ensures.text;
+      siv_is = granted_put _ (siv f s key nonce header text) _ _ _ z (c.copy_from_slice.ensures.after ∙ ap (λ x. take x c.seal_buffer-iv.result) n ∙ c.seal_buffer-iv.ensures.siv) (n ∙ sym (length_siv f s key nonce header text));
+      out_is = whole_put _ _ text _ z (length_ciphertext f s key nonce header text) c.seal_buffer-iv.ensures.text;
     }

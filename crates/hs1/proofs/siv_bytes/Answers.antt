@@ -5,4 +5,4 @@ pub returns : goal.returns
 returns g c key d =
     let f = g.S.Stream.meaning c.args.stream.now in
     let s = c.args.strength in
-    siv_from f s key c.args.nonce.now c.args.header.now c.args.text.now _ _ (seed_from f s key c.args.keys.now _ _ _ d c.hash-message-digest.ensures c.xor-32-seed.ensures) c.mask.ensures
+    siv_from f s key c.args.nonce.now c.args.header.now c.args.text.now _ _ (seed_from f s key c.args.keys.now _ _ _ d c.hash_message-digest.ensures c.xor_32-seed.ensures) c.mask.ensures

@@ -3,4 +3,4 @@ use Rattle.hs1.proofs.subkey_stream.Goals as goal
 
 pub returns : goal.returns
 returns g c =
-    bytes_are (g.S.Stream.meaning c.args.stream.now) c.args.strength c.args.key.now _ _ _ _ _ c.repeat-key-seed.ensures c.make-nonce-nonce.ensures c.rounds.ensures c.subkey-len.ensures c.mask.ensures
+    bytes_are (g.S.Stream.meaning c.args.stream.now) c.args.strength c.args.key.now _ _ _ _ _ c.repeat_key-seed.ensures c.make_nonce-nonce.ensures c.rounds.ensures c.subkey_len.ensures c.mask.ensures

@@ -21,7 +21,7 @@ long out part q lt l n = ap length (put_mid-paste (16 * q) ((16 * q + 16) - 16 *
 
 pub loop-q-preserved : goal.loop-q-preserved
 loop-q-preserved c =
-    (long c.loop-q.out c.copy-from-slice.new.self c.loop-q.q (omega arith) c.loop-q.invariant.0 (ap length c.copy-from-slice.ensures.after ∙ search rules), step c.args.self.now.expanded c.args.self.now.nonce c.loop-q.out c.encrypt-block.result c.copy-from-slice.new.self c.args.index c.loop-q.q _ (omega arith) c.loop-q.invariant.0 c.loop-q.invariant.1 c.copy-from-slice.ensures.after (search rules) (search rules) (c.encrypt-block.ensures ∙ ap (encrypted c.args.self.now.expanded) c.counted.ensures) (omega (arith, c.from.ensures)))
+    (long c.loop-q.out c.copy_from_slice.new.self c.loop-q.q (omega arith) c.loop-q.invariant.0 (ap length c.copy_from_slice.ensures.after ∙ search rules), step c.args.self.now.expanded c.args.self.now.nonce c.loop-q.out c.encrypt-block.result c.copy_from_slice.new.self c.args.index c.loop-q.q _ (omega arith) c.loop-q.invariant.0 c.loop-q.invariant.1 c.copy_from_slice.ensures.after (search rules) (search rules) (c.encrypt-block.ensures ∙ ap (encrypted c.args.self.now.expanded) c.counted.ensures) (omega (arith, c.from.ensures)))
 
 pub returns : goal.returns
 returns c =

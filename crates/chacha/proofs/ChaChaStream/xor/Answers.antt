@@ -12,5 +12,5 @@ same_bytes n m seed nonce state e at =
 
 pub returns : goal.returns
 returns c =
-    let P : (ℕ → ℕ) → Type 0 = λ f. Xored f c.args.place c.args.buf.now c.xor-blocks.new.buf c.xor-blocks.result in
-    subst P (same_bytes _ _ c.args.seed.now c.args.nonce.now c.first-state.result (c.from.ensures ∙ ap (λ r. r / 2) c.rounds.ensures) c.first-state.ensures) c.xor-blocks.ensures
+    let P : (ℕ → ℕ) → Type 0 = λ f. Xored f c.args.place c.args.buf.now c.xor_blocks.new.buf c.xor_blocks.result in
+    subst P (same_bytes _ _ c.args.seed.now c.args.nonce.now c.first_state.result (c.from.ensures ∙ ap (λ r. r / 2) c.rounds.ensures) c.first_state.ensures) c.xor_blocks.ensures

@@ -11,27 +11,27 @@ inverse g = reads_its_text g.K.Kind.reading g.K.Kind.lawful g.K.Kind.line g.met.
 pub loop-at-init : goal.loop-at-init
 loop-at-init g c = along_none g.K.Kind.reading c.args.text.now
 
-pub returns-then-count-eq-MOST-ITEMS : goal.returns-then-count-eq-MOST-ITEMS
-returns-then-count-eq-MOST-ITEMS g c =
+pub returns-then-count-eq-MOST_ITEMS : goal.returns-then-count-eq-MOST_ITEMS
+returns-then-count-eq-MOST_ITEMS g c =
     record {
-      answer = (_, _, along_many g.K.Kind.reading c.args.text.now _ _ c.loop-at.invariant c.loop-at-test.true c.if-count-eq-MOST-ITEMS.true, refl);
+      answer = (_, _, along_many g.K.Kind.reading c.args.text.now _ _ c.loop-at.invariant c.loop-at-test.true c.if-count-eq-MOST_ITEMS.true, refl);
       one = one_answer g.K.Kind.reading;
       inverse = inverse g;
     }
 
-pub returns-in-default : goal.returns-in-default
-returns-in-default g c =
+pub returns-in_default : goal.returns-in_default
+returns-in_default g c =
     record {
-      answer = (_, _, along_fault g.K.Kind.reading c.args.text.now _ _ c.loop-at.invariant _ c.next-line-line.ensures _ (omega (arith, c.loop-at.invariant.few)) (none_bad g.K.Kind.reading _ (sym c.in-default.ensures)) c.fault-column-column.ensures, refl);
+      answer = (_, _, along_fault g.K.Kind.reading c.args.text.now _ _ c.loop-at.invariant _ c.next_line-line.ensures _ (omega (arith, c.loop-at.invariant.few)) (none_bad g.K.Kind.reading _ (sym c.in_default.ensures)) c.fault_column-column.ensures, refl);
       one = one_answer g.K.Kind.reading;
       inverse = inverse g;
     }
 
 pub loop-at-preserved : goal.loop-at-preserved
-loop-at-preserved g c = along_next g.K.Kind.reading c.args.text.now _ _ c.loop-at.invariant _ c.next-line-line.ensures (omega (arith, c.loop-at.invariant.few)) (ap is_some (sym c.in-Some.ensures))
+loop-at-preserved g c = along_next g.K.Kind.reading c.args.text.now _ _ c.loop-at.invariant _ c.next_line-line.ensures (omega (arith, c.loop-at.invariant.few)) (ap is_some (sym c.in-Some.ensures))
 
 pub loop-at-smaller : goal.loop-at-smaller
-loop-at-smaller g c = omega (arith, c.next-line-line.ensures.some, c.next-line-line.ensures.fits)
+loop-at-smaller g c = omega (arith, c.next_line-line.ensures.some, c.next_line-line.ensures.fits)
 
 pub returns : goal.returns
 returns g c =

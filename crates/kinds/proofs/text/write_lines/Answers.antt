@@ -6,8 +6,8 @@ use Rattle.kinds.proofs.Measured.{write_granted, next_text, no_text}
 use Rattle.kinds.proofs.Overwrite.{Over, over_part, over_room, over_all}
 use Rattle.kinds.proofs.text.write_lines.Goals as goal
 
-pub returns-in-default : goal.returns-in-default
-returns-in-default g c =
+pub returns-in_default : goal.returns-in_default
+returns-in_default g c =
     let line = g.K.Kind.line in
     let xs = c.args.items.now in
     let i = c.loop-item.item-index in
@@ -19,7 +19,7 @@ returns-in-default g c =
     let room = over_room w c.args.out.now out at (line x) (text_of line (drop (i + 1) xs)) c.requires.1 o in
     let part : length (take (length out - at) (drop at out)) ≡ length out - at = ap length (take_rest out at) ∙ length-drop at out in
     let good : g.K.Kind.lawful x ≡ true = ap g.K.Kind.lawful c.item-item.is ∙ All-get_or (λ y. g.K.Kind.lawful y ≡ true) xs i x c.loop-item-test.true c.requires.0 in
-    absurd (write_granted _ _ _ _ c.write.result good (omega arith) c.write.ensures c.in-default.not-Ok)
+    absurd (write_granted _ _ _ _ c.write.result good (omega arith) c.write.ensures c.in_default.not-Ok)
 
 pub loop-item-preserved : goal.loop-item-preserved
 loop-item-preserved g c =

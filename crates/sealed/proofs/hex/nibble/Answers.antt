@@ -11,14 +11,14 @@ pub returns-in-97-to-102 : goal.returns-in-97-to-102
 unfolding digit_value
 returns-in-97-to-102 c = grind (arith, nat_tests)
 
-pub returns-in-default : goal.returns-in-default
+pub returns-in_default : goal.returns-in_default
 unfolding digit_value
-returns-in-default c = grind (arith, nat_tests)
+returns-in_default c = grind (arith, nat_tests)
 
-pub returns-in-default·2 : goal.returns-in-default·2
+pub returns-in_default-2 : goal.returns-in_default-2
 unfolding digit_value
-returns-in-default·2 c = grind (arith, nat_tests)
+returns-in_default-2 c = grind (arith, nat_tests)
 
-pub returns-in-default·3 : goal.returns-in-default·3
+pub returns-in_default-3 : goal.returns-in_default-3
 unfolding digit_value
-returns-in-default·3 c = grind (arith, nat_tests)
+returns-in_default-3 c = grind (arith, nat_tests)

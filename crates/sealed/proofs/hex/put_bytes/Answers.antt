@@ -4,11 +4,11 @@ use Rattle.sealed.proofs.Hexes.{value_small}
 use Rattle.sealed.proofs.Overs.{length_bytes, bytes_at, front_more, front_all}
 use Rattle.sealed.proofs.hex.put_bytes.Goals as goal
 
-pub overflow-mul-out : goal.overflow-mul-out
-overflow-mul-out c = omega (arith, value_small (get_or c.args.digits.now (2 * c.loop-i.i) 0), c.nibble.ensures)
+pub overflow_mul-out : goal.overflow_mul-out
+overflow_mul-out c = omega (arith, value_small (get_or c.args.digits.now (2 * c.loop-i.i) 0), c.nibble.ensures)
 
-pub overflow-add-out : goal.overflow-add-out
-overflow-add-out c = omega (arith, value_small (get_or c.args.digits.now (2 * c.loop-i.i) 0), c.nibble.ensures, value_small (get_or c.args.digits.now (2 * c.loop-i.i + 1) 0), c.nibble-in-loop-i.ensures)
+pub overflow_add-out : goal.overflow_add-out
+overflow_add-out c = omega (arith, value_small (get_or c.args.digits.now (2 * c.loop-i.i) 0), c.nibble.ensures, value_small (get_or c.args.digits.now (2 * c.loop-i.i + 1) 0), c.nibble-in-loop-i.ensures)
 
 pub bounds-out-i : goal.bounds-out-i
 bounds-out-i c = omega (arith, length_bytes c.args.digits.now, c.requires)

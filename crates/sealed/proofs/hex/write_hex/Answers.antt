@@ -9,4 +9,4 @@ returns-then-out-bytes c = writes_short (hex_of c.args.bytes.now) c.args.out.now
 
 pub returns : goal.returns
 returns c =
-    writes_all (hex_of c.args.bytes.now) c.args.out.now _ _ (omega (arith, length_hex c.args.bytes.now, c.if-out-bytes.false)) c.put-hex.ensures.end c.put-hex.ensures.after
+    writes_all (hex_of c.args.bytes.now) c.args.out.now _ _ (omega (arith, length_hex c.args.bytes.now, c.if-out-bytes.false)) c.put_hex.ensures.end c.put_hex.ensures.after

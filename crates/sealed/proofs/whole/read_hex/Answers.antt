@@ -15,15 +15,15 @@ returns-then-len-ne0 c = (
   refl,
 )
 
-pub returns-then-not-all-hex : goal.returns-then-not-all-hex
-returns-then-not-all-hex c = ((λ bytes small room e. not_from_Decides _ c.all-hex.ensures c.if-not-all-hex.true (subst (All HexDigit) (sym e) (hex_digits bytes small))), refl)
+pub returns-then-not-all_hex : goal.returns-then-not-all_hex
+returns-then-not-all_hex c = ((λ bytes small room e. not_from_Decides _ c.all_hex.ensures c.if-not-all_hex.true (subst (All HexDigit) (sym e) (hex_digits bytes small))), refl)
 
-pub put-bytes-requires : goal.put-bytes-requires
-put-bytes-requires c = omega (arith, (whole_hex c.args.text.now c.if-len-ne0.false (c.all-hex.ensures.0 c.if-not-all-hex.false)).1, c.if-out-len.false)
+pub put_bytes-requires : goal.put_bytes-requires
+put_bytes-requires c = omega (arith, (whole_hex c.args.text.now c.if-len-ne0.false (c.all_hex.ensures.0 c.if-not-all_hex.false)).1, c.if-out-len.false)
 
 pub returns : goal.returns
 returns c =
     let text = c.args.text.now in
-    let w = whole_hex text c.if-len-ne0.false (c.all-hex.ensures.0 c.if-not-all-hex.false) in
-    let n = c.put-bytes.ensures.len in
-    (bytes_of text, bytes_small text, w.0, n, omega (arith, n, w.1, c.if-out-len.false), c.put-bytes.ensures.after ∙ ap (λ k. bytes_of text ++ drop k c.args.out.now) (sym n))
+    let w = whole_hex text c.if-len-ne0.false (c.all_hex.ensures.0 c.if-not-all_hex.false) in
+    let n = c.put_bytes.ensures.len in
+    (bytes_of text, bytes_small text, w.0, n, omega (arith, n, w.1, c.if-out-len.false), c.put_bytes.ensures.after ∙ ap (λ k. bytes_of text ++ drop k c.args.out.now) (sym n))

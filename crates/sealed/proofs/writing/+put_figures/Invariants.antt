@@ -1,4 +1,4 @@
 use Rattle.sealed.proofs.writing.+put_figures.Given as goal
 
-abbrev pub decreases-put-figures : goal.decreases-put-figures
-decreases-put-figures l = l.n
+abbrev pub decreases-put_figures : goal.decreases-put_figures
+decreases-put_figures l = l.n

@@ -6,13 +6,13 @@ use Rattle.sealed.proofs.writing.write_header.Goals as goal
 pub returns-in-Some : goal.returns-in-Some
 returns-in-Some c = refuses _ (header_of c.args.slot c.args.kind c.args.serial) c.args.out.now _ c.in-Some.ensures
 
-pub returns-then-out-figure-count : goal.returns-then-out-figure-count
-returns-then-out-figure-count c = refuses_room _ (header_of c.args.slot c.args.kind c.args.serial) c.args.out.now c.in-default.ensures (omega (arith, short_header c.args.slot c.args.kind c.args.serial c.in-default.ensures (omega arith), c.figure-count.ensures.0, c.if-out-figure-count.true))
+pub returns-then-out-figure_count : goal.returns-then-out-figure_count
+returns-then-out-figure_count c = refuses_room _ (header_of c.args.slot c.args.kind c.args.serial) c.args.out.now c.in_default.ensures (omega (arith, short_header c.args.slot c.args.kind c.args.serial c.in_default.ensures (omega arith), c.figure_count.ensures.0, c.if-out-figure_count.true))
 
-pub put-header-requires : goal.put-header-requires
-put-header-requires c = omega (arith, short_header c.args.slot c.args.kind c.args.serial c.in-default.ensures (omega arith), c.figure-count.ensures.0, c.if-out-figure-count.false)
+pub put_header-requires : goal.put_header-requires
+put_header-requires c = omega (arith, short_header c.args.slot c.args.kind c.args.serial c.in_default.ensures (omega arith), c.figure_count.ensures.0, c.if-out-figure_count.false)
 
 pub returns : goal.returns
 returns c =
-    let room = short_header c.args.slot c.args.kind c.args.serial c.in-default.ensures (omega arith) in
-    writes_it _ (header_of c.args.slot c.args.kind c.args.serial) c.args.out.now c.in-default.ensures _ _ (omega (arith, room, c.figure-count.ensures.0, c.if-out-figure-count.false)) c.put-header.ensures.end c.put-header.ensures.after
+    let room = short_header c.args.slot c.args.kind c.args.serial c.in_default.ensures (omega arith) in
+    writes_it _ (header_of c.args.slot c.args.kind c.args.serial) c.args.out.now c.in_default.ensures _ _ (omega (arith, room, c.figure_count.ensures.0, c.if-out-figure_count.false)) c.put_header.ensures.end c.put_header.ensures.after

@@ -5,8 +5,8 @@ use Rattle.kinds.proofs.tray.Tray.get.Goals as goal
 
 pub returns-then-index-items : goal.returns-then-index-items
 returns-then-index-items g c =
-    sym (slice_get_read _ _ c.args.index _ refl c.if-index-items.true c.index-items-index.is) ∙ ap (λ xs. slice_get xs c.args.index) c.as-slice-items.ensures
+    sym (slice_get_read _ _ c.args.index _ refl c.if-index-items.true c.index-items-index.is) ∙ ap (λ xs. slice_get xs c.args.index) c.as_slice-items.ensures
 
 pub returns-else-index-items : goal.returns-else-index-items
 returns-else-index-items g c =
-    sym (slice_get_past _ c.args.index c.if-index-items.false) ∙ ap (λ xs. slice_get xs c.args.index) c.as-slice-items.ensures
+    sym (slice_get_past _ c.args.index c.if-index-items.false) ∙ ap (λ xs. slice_get xs c.args.index) c.as_slice-items.ensures

@@ -7,8 +7,8 @@ use Rattle.std.proofs.lemmas.Bool.Decides.{Decides-eqb}
 
 pub returns : goal.returns
 returns c =
-    let d = c.in-ok-n.ensures in
-    let n = c.in-ok-n.n in
+    let d = c.in_ok-n.ensures in
+    let n = c.in_ok-n.n in
     let text = bytes_of c.args.self.digits.now in
     let z : n - 0 ≡ n = omega arith in
     let front : take (n - 0) c.decode.new.work ≡ text = ap (λ i. take i c.decode.new.work) z ∙ ap (take n) d.2 ∙ take_at text (drop n c.args.work.now) n (sym d.0) in

@@ -13,8 +13,8 @@ use Rattle.sealed.proofs.unchecked.Unchecked.read.Goals.{then-n-line-via-then-n-
 pub bounds-line-n : goal.bounds-line-n
 bounds-line-n c = omega (arith, read_fits _ _ _ c.in-Ok.ensures.0)
 
-pub overflow-add-result : goal.overflow-add-result
-overflow-add-result c = omega (arith, read_fits _ _ _ c.in-Ok.ensures.0)
+pub overflow_add-result : goal.overflow_add-result
+overflow_add-result c = omega (arith, read_fits _ _ _ c.in-Ok.ensures.0)
 
 pub returns-then-n-line : goal.returns-then-n-line
 returns-then-n-line c =
@@ -27,8 +27,8 @@ returns-then-n-line c =
     let v = column_like (Line Whole) SealedLine line_sealed sealed_whole l (n + 1) (line_other Whole whole_apart l n c.in-Ok.ensures.0 other) in
     record { reads = (v.0, (_, v.1, refl)); unique = (one_reading, one_column SealedLine) }
 
-pub overflow-add-n : goal.overflow-add-n
-overflow-add-n c = omega (arith, read_fits _ _ _ c.in-Ok.ensures.0)
+pub overflow_add-n : goal.overflow_add-n
+overflow_add-n c = omega (arith, read_fits _ _ _ c.in-Ok.ensures.0)
 
 pub returns-then-n-line-2 : goal.returns-then-n-line-2
 returns-then-n-line-2 c =
@@ -37,8 +37,8 @@ returns-then-n-line-2 c =
     let v = column_like (Line Whole) SealedLine line_sealed sealed_whole l (n + 2) (line_long Whole whole_apart l n c.in-Ok.ensures.0 (omega arith) c.if-line-n-ne10.false c.if-n-line-2.true) in
     record { reads = (v.0, (_, v.1, refl)); unique = (one_reading, one_column SealedLine) }
 
-pub overflow-add-result-in-Err : goal.overflow-add-result-in-Err
-overflow-add-result-in-Err c = omega (arith, fault_fits _ _ _ c.in-Err.ensures)
+pub overflow_add-result-in-Err : goal.overflow_add-result-in-Err
+overflow_add-result-in-Err c = omega (arith, fault_fits _ _ _ c.in-Err.ensures)
 
 pub returns-else-n-line-2 : goal.returns-else-n-line-2
 returns-else-n-line-2 c =

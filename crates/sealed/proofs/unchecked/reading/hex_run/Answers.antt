@@ -8,4 +8,4 @@ loop-n-preserved c =
     let s = c.args.s.now in
     let n = c.loop-n.n in
     let l : n < length s = omega arith in
-    (omega arith, omega arith, All-more HexDigit s n 0 l c.loop-n.invariant.2 (c.is-hex.ensures.0 c.if-is-hex.true))
+    (omega arith, omega arith, All-more HexDigit s n 0 l c.loop-n.invariant.2 (c.is_hex.ensures.0 c.if-is_hex.true))
