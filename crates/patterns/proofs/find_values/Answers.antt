@@ -7,9 +7,9 @@ use Rattle.patterns.proofs.Found.{Found, found_missing, found_number, found_othe
 use Rattle.patterns.proofs.find_values.Goals as goal
 use Rattle.patterns.proofs.find_values.Goals.{then-at-line-via-then-at-line, then-at-line-via-else-at-line+then-line-at, then-b-eq35+in-Some, else-b-eq35+else-at-line+else-line-at}
 
-pub returns-in-default : goal.returns-in-default
-returns-in-default g c =
-    let none = subst (λ l. NextValue (drop c.loop-b.next c.args.ranges.now) l None) (take_rest c.args.line.now c.loop-b.at) c.in-default.ensures in
+pub returns-in_default : goal.returns-in_default
+returns-in_default g c =
+    let none = subst (λ l. NextValue (drop c.loop-b.next c.args.ranges.now) l None) (take_rest c.args.line.now c.loop-b.at) c.in_default.ensures in
     found_missing _ _ _ _ _ _ _ c.loop-b.invariant.0 c.loop-b-test.true c.if-b-eq35.true none
 
 pub bounds-values-next : goal.bounds-values-next

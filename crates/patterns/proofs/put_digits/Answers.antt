@@ -12,10 +12,10 @@ returns-then-next-values c =
     let h : InRange z = All-get_or InRange c.args.values.now c.args.next (pos 0) c.if-next-values.true c.requires.0 in
     let e = first_at c.args.values.now c.args.next (pos 0) c.if-next-values.true in
     let room : length (digits z) ≤ length out = omega (arith, ap length e, c.requires.1) in
-    let p = put_value z out c.write-number.new.out c.write-number.result h room (subst (λ y. WritesNumber y out c.write-number.new.out c.write-number.result) (in_range_kept z h) c.write-number.ensures) in
+    let p = put_value z out c.write_number.new.out c.write_number.result h room (subst (λ y. WritesNumber y out c.write_number.new.out c.write_number.result) (in_range_kept z h) c.write_number.ensures) in
     record {
-      len = c.unwrap-or.ensures ∙ p.0 ∙ ap length (sym e);
-      after = p.1 ∙ ap (λ n. digits z ++ drop n out) (sym c.unwrap-or.ensures) ∙ ap (λ w. w ++ drop c.unwrap-or.result out) (sym e);
+      len = c.unwrap_or.ensures ∙ p.0 ∙ ap length (sym e);
+      after = p.1 ∙ ap (λ n. digits z ++ drop n out) (sym c.unwrap_or.ensures) ∙ ap (λ w. w ++ drop c.unwrap_or.result out) (sym e);
     }
 
 pub returns-else-next-values : goal.returns-else-next-values

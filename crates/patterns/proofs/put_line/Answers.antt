@@ -6,17 +6,17 @@ use Rattle.patterns.proofs.Spell.{no_more, number_comes, byte_comes, number_room
 use Rattle.patterns.proofs.put_line.Goals as goal
 use Rattle.patterns.proofs.put_line.Goals.{then-b-eq35, else-b-eq35}
 
-pub put-digits-at-requires : goal.put-digits-at-requires
-put-digits-at-requires c =
+pub put_digits-at-requires : goal.put_digits-at-requires
+put_digits-at-requires c =
     let out = c.loop-b.out in
     let at = c.loop-b.at in
     let part : length (take (length out - at) (drop at out)) ≡ length out - at = ap length (take_rest out at) ∙ length-drop at out in
     (c.requires.0, omega (arith, number_room _ _ _ _ _ _ _ c.loop-b.invariant.0 c.loop-b-test.true c.requires.1 c.if-b-eq35.true))
 
-pub overflow-add-at : goal.overflow-add-at
-overflow-add-at c =
+pub overflow_add-at : goal.overflow_add-at
+overflow_add-at c =
     let h = number_room _ _ _ _ _ _ _ c.loop-b.invariant.0 c.loop-b-test.true c.requires.1 c.if-b-eq35.true in
-    let e : c.loop-b.at + c.put-digits-at.result ≤ length c.loop-b.out = omega (arith, c.put-digits-at.ensures.len) in
+    let e : c.loop-b.at + c.put_digits-at.result ≤ length c.loop-b.out = omega (arith, c.put_digits-at.ensures.len) in
     search rules
 
 pub bounds-out-at : goal.bounds-out-at
@@ -32,11 +32,11 @@ loop-b-preserved c =
     elim c.if-b-eq35.branch [
       | then-b-eq35 v ↦
           let o = number_comes p vs before c.loop-b.out c.loop-b.at i c.loop-b.next c.loop-b.invariant.0 c.loop-b-test.true v.if-b-eq35.true in
-          let k = v.put-digits-at.ensures in
-          rw (v.out_is, v.at-is, v.next-is) (over_part w before c.loop-b.out c.loop-b.at _ _ _ _ _ o k.len refl k.after, omega (arith, c.loop-b.invariant.1))
+          let k = v.put_digits-at.ensures in
+          rw (v.out-is, v.at-is, v.next-is) (over_part w before c.loop-b.out c.loop-b.at _ _ _ _ _ o k.len refl k.after, omega (arith, c.loop-b.invariant.1))
       | else-b-eq35 v ↦
           let o = byte_comes p vs before c.loop-b.out c.loop-b.at i c.loop-b.next c.loop-b.invariant.0 c.loop-b-test.true v.if-b-eq35.false in
-          rw (v.out_is, v.at-is, v.next-is) (over_byte w before c.loop-b.out c.loop-b.at _ _ c.requires.1 o, omega (arith, c.loop-b.invariant.1))
+          rw (v.out-is, v.at-is, v.next-is) (over_byte w before c.loop-b.out c.loop-b.at _ _ c.requires.1 o, omega (arith, c.loop-b.invariant.1))
     ]
 
 pub returns : goal.returns

@@ -10,11 +10,11 @@ none false d never = refl
 other : (n p : List ℕ) → (n ≡ p → ⊥) → bytes_eq n p ≡ false
 other n p = none (bytes_eq n p) (bytes_eq-Decides n p)
 
-pub returns-in-default : goal.returns-in-default
-returns-in-default c =
+pub returns-in_default : goal.returns-in_default
+returns-in_default c =
     let n = c.args.name.now in
-    let lo : bytes_eq n (codes "hs1-siv-lo") ≡ false = other n (codes "hs1-siv-lo") c.in-default.not-text in
-    let mid : bytes_eq n (codes "hs1-siv") ≡ false = other n (codes "hs1-siv") c.in-default.not-text-2 in
-    let hi : bytes_eq n (codes "hs1-siv-hi") ≡ false = other n (codes "hs1-siv-hi") c.in-default.not-text-3 in
-    let loft : bytes_eq n (codes "loft-aes") ≡ false = other n (codes "loft-aes") c.in-default.not-text-4 in
+    let lo : bytes_eq n (codes "hs1-siv-lo") ≡ false = other n (codes "hs1-siv-lo") c.in_default.not-text in
+    let mid : bytes_eq n (codes "hs1-siv") ≡ false = other n (codes "hs1-siv") c.in_default.not-text-2 in
+    let hi : bytes_eq n (codes "hs1-siv-hi") ≡ false = other n (codes "hs1-siv-hi") c.in_default.not-text-3 in
+    let loft : bytes_eq n (codes "loft-aes") ≡ false = other n (codes "loft-aes") c.in_default.not-text-4 in
     rw (lo, mid, hi, loft) refl
