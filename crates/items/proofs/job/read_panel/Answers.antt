@@ -4,13 +4,13 @@ use Rattle.items.specs.Job.{panel_numbers, cloth_numbers}
 use Rattle.items.specs.ValuesLemmas.{two_values, range_count, within_at, cast_fits, cast_value}
 use Rattle.items.proofs.job.read_panel.Goals as goal
 
-pub overflow-cast-result : goal.overflow-cast-result
-overflow-cast-result c =
+pub overflow_cast-result : goal.overflow_cast-result
+overflow_cast-result c =
     let m = c.in-Some.ensures refl in
     cast_fits panel_numbers (get_or c.in-Some.values 0 (pos 0)) refl refl (within_at (panel_numbers ∷ cloth_numbers ∷ []) c.in-Some.values 0 panel_numbers m.0 (omega arith))
 
-pub overflow-cast-result-in-Some : goal.overflow-cast-result-in-Some
-overflow-cast-result-in-Some c =
+pub overflow_cast-result-in-Some : goal.overflow_cast-result-in-Some
+overflow_cast-result-in-Some c =
     let m = c.in-Some.ensures refl in
     cast_fits cloth_numbers (get_or c.in-Some.values 1 (pos 0)) refl refl (within_at (panel_numbers ∷ cloth_numbers ∷ []) c.in-Some.values 1 panel_numbers m.0 (omega arith))
 

@@ -4,8 +4,8 @@ use Rattle.items.specs.Setting.{tool_numbers, offsets}
 use Rattle.items.specs.ValuesLemmas.{two_values, range_count, within_at, kept_at, cast_fits, cast_value}
 use Rattle.items.proofs.setting.read_tool.Goals as goal
 
-pub overflow-cast-result : goal.overflow-cast-result
-overflow-cast-result c =
+pub overflow_cast-result : goal.overflow_cast-result
+overflow_cast-result c =
     let m = c.in-Some.ensures refl in
     cast_fits tool_numbers (get_or c.in-Some.values 0 (pos 0)) refl refl (within_at (tool_numbers ∷ offsets ∷ []) c.in-Some.values 0 tool_numbers m.0 (omega arith))
 

@@ -11,5 +11,5 @@ returns-in-NoSealedLine c = made_as c.format-in-NoSealedLine.result _ _ _ (colum
 pub returns-in-NoSheet : goal.returns-in-NoSheet
 returns-in-NoSheet c = made_as c.format-in-NoSheet.result _ _ _ (sheet_refused c.args.why c.number-number.result c.number-number.ensures (omega arith) c.in-NoSheet.line c.in-NoSheet.column (omega arith) (omega arith) c.in-NoSheet.is) c.format-in-NoSheet.ensures.ok
 
-pub returns-in-default : goal.returns-in-default
-returns-in-default c = made_as c.format-in-default.result _ _ _ (plain_refused c.args.why c.number-number.result c.number-number.ensures (omega arith) c.in-default.not-UnlawfulItem c.in-default.not-NoSealedLine c.in-default.not-NoSheet) c.format-in-default.ensures.ok
+pub returns-in_default : goal.returns-in_default
+returns-in_default c = made_as c.format-in_default.result _ _ _ (plain_refused c.args.why c.number-number.result c.number-number.ensures (omega arith) c.in_default.not-UnlawfulItem c.in_default.not-NoSealedLine c.in_default.not-NoSheet) c.format-in_default.ensures.ok

@@ -13,13 +13,13 @@ returns-in-Panel c =
     (subst (λ vs. Writes (in_ranges (panel_numbers ∷ cloth_numbers ∷ []) vs) (spelt (codes "(panel # (cloth #))\n") vs) c.args.out.now c.write.new.out c.write.result) (ap₂ (λ a b. a ∷ b ∷ []) n k) c.write.ensures)
 
 pub returns-in-Move : goal.returns-in-Move
-returns-in-Move c = subst (λ y. Writes (job_lawful y) (job_line y) c.args.out.now c.write-point.new.out c.write-point.result) (sym c.in-Move.is) c.write-point.ensures
+returns-in-Move c = subst (λ y. Writes (job_lawful y) (job_line y) c.args.out.now c.write_point.new.out c.write_point.result) (sym c.in-Move.is) c.write_point.ensures
 
 pub returns-in-Cut : goal.returns-in-Cut
-returns-in-Cut c = subst (λ y. Writes (job_lawful y) (job_line y) c.args.out.now c.write-point-in-Cut.new.out c.write-point-in-Cut.result) (sym c.in-Cut.is) c.write-point-in-Cut.ensures
+returns-in-Cut c = subst (λ y. Writes (job_lawful y) (job_line y) c.args.out.now c.write_point-in-Cut.new.out c.write_point-in-Cut.result) (sym c.in-Cut.is) c.write_point-in-Cut.ensures
 
 pub returns-in-Mark : goal.returns-in-Mark
-returns-in-Mark c = subst (λ y. Writes (job_lawful y) (job_line y) c.args.out.now c.write-point-in-Mark.new.out c.write-point-in-Mark.result) (sym c.in-Mark.is) c.write-point-in-Mark.ensures
+returns-in-Mark c = subst (λ y. Writes (job_lawful y) (job_line y) c.args.out.now c.write_point-in-Mark.new.out c.write_point-in-Mark.result) (sym c.in-Mark.is) c.write_point-in-Mark.ensures
 
 pub returns-in-Arc : goal.returns-in-Arc
 returns-in-Arc c =
