@@ -4,7 +4,7 @@ use Rattle.hash.specs.declared.Strength.{Strength}
 use Rattle.hash.specs.declared.Strength.TheVariants.{Mid, Hi}
 use Rattle.hash.specs.Strength.{hashes, nh_words}
 use Rattle.hash.specs.Nh.{nh}
-use Rattle.hash.specs.Hash.{h_at, result}
+use Rattle.hash.specs.Hash.{h_at, result_of}
 use Rattle.hash.specs.Message.{message}
 use Rattle.hs1.specs.Hs1.{subkey_nonce}
 use Rattle.shape.specs.Form.{WellShaped}
@@ -42,7 +42,7 @@ Holds (nonce s rounds key bytes) = subkey_nonce s rounds key ≡ bytes
 Holds (nh_sum k m n) = nh k m ≡ n
 Holds (nh_low k m n) = nh k m % 2 ^ 60 ≡ n
 Holds (hash_number s kN kP input h) = (i : ℕ) → i < hashes s → h_at kN kP input i ≡ h
-Holds (last_step s kA h bytes) = result s kA h ≡ bytes
+Holds (last_step s kA h bytes) = result_of s kA h ≡ bytes
 Holds (fault line column) = (WellShaped line → ⊥) × Column WellShaped line column
 Holds (job line item) = (job_lawful item ≡ true) × (job_reading line ≡ Some item)
 Holds (no_job line) = WellShaped line × (job_reading line ≡ None) × ColumnOf line 0

@@ -1,7 +1,7 @@
 use Rattle.console.proofs.opening.open_as.Goals as goal
 
-pub push-sheet-requires : goal.push-sheet-requires
-push-sheet-requires g c = ?
+pub push_sheet-requires : goal.push_sheet-requires
+push_sheet-requires g c = ?
 
 pub returns-in-Ok : goal.returns-in-Ok
 returns-in-Ok g c = ?

@@ -11,8 +11,8 @@ pub returns : goal.returns
 returns g c =
     let items = c.args.items.now in
     let o = vec_items c.args.out.now in
-    let mid = vec_items c.extend-from-slice.new.self in
+    let mid = vec_items c.extend_from_slice.new.self in
     let text = text_there g.K.Kind.lawful g.K.Kind.line items c.requires.0 _ _ c.in-Ok.len c.in-Ok.ensures.answer in
-    two_pushes c.extend-from-slice-in-Ok.result o mid _ (opened_line (length items)) (text_of g.K.Kind.line items)
-    (c.in-ok-extend-from-slice.ensures.items ∙ ap (λ x. o ++ x) (c.as-bytes.ensures.value ∙ c.in-ok-line.ensures))
-    (c.extend-from-slice-in-Ok.ensures.items ∙ ap (λ x. cond (is_ok c.extend-from-slice-in-Ok.result) (mid ++ x) mid) text)
+    two_pushes c.extend_from_slice-in-Ok.result o mid _ (opened_line (length items)) (text_of g.K.Kind.line items)
+    (c.in_ok-extend_from_slice.ensures.items ∙ ap (λ x. o ++ x) (c.as_bytes.ensures.value ∙ c.in_ok-line.ensures))
+    (c.extend_from_slice-in-Ok.ensures.items ∙ ap (λ x. cond (is_ok c.extend_from_slice-in-Ok.result) (mid ++ x) mid) text)
