@@ -1,14 +1,14 @@
 -- An opening: what the box asks of a slot is what the book asks, so that box
 -- and book go on together.
-use Rattle.std.proofs.Common.{◌≡◌, ℕ, ◌<◌, ◌≤◌, Bool, true, false, cond, ◌&&◌, eqb, ltb, ◌⊎◌, List, [], ◌∷◌, ◌++◌, map, length, get_or, drop, is_some, Some, None, Ok, Err, Option, sym, refl, ap, ◌∙◌, subst, inl, inr, ⊎_elim, arith}
+use Rattle.std.proofs.Common.{◌≡◌, ℕ, ◌<◌, ◌≤◌, Bool, true, cond, ◌&&◌, eqb, ltb, ◌⊎◌, List, [], ◌∷◌, ◌++◌, map, length, get_or, drop, is_some, Some, None, Ok, Err, Option, sym, refl, ap, ◌∙◌, subst, inl, inr, ⊎_elim, arith}
 use Rattle.std.specs.List.{flat_map, AllByRecursion as All}
 use Rattle.std.proofs.lemmas.List.{length-map}
 use Rattle.std.proofs.lemmas.Bool.{false≢true, both_ways, and_parts, and_from, eqb-true, eq-eqb, ltb-true, lt-ltb, cond_both}
 use Rattle.book.specs.declared.Slot.{Slot}
-use Rattle.book.specs.Keys.{key_of, empty}
-use Rattle.book.specs.Book.{Call, Sealing, KindOf, kind_of, setting, clearing, asking, opening, hits, good_key, key_in, text_of, slot_count, most_bytes, serial_end, SealedLines, Granted, Opened}
+use Rattle.book.specs.Keys.{empty}
+use Rattle.book.specs.Book.{Call, Sealing, kind_of, setting, clearing, asking, opening, hits, good_key, key_in, text_of, slot_count, most_bytes, serial_end, Granted, Opened}
 use Rattle.book.specs.Stands.{Agrees, Stands, Noted}
-use Rattle.book.specs.Law.{Seals, OpenLaw, Delivered, Passes}
+use Rattle.book.specs.Law.{Seals, OpenLaw, Passes}
 
 some_of : {X : Type 0} (o : Option X) → is_some o ≡ true → (x : X) × (o ≡ Some x)
 some_of None e = absurd (false≢true e)

@@ -1,10 +1,10 @@
 -- How the slots and the book go on together, call by call.
-use Rattle.std.proofs.Common.{◌≡◌, ℕ, Bool, true, false, cond, ◌&&◌, List, [], ◌∷◌, ◌++◌, get_or, Some, None, Option, sym, refl, ◌∙◌, subst}
+use Rattle.std.proofs.Common.{◌≡◌, ℕ, Bool, true, false, cond, ◌&&◌, List, [], ◌∷◌, ◌++◌, get_or, Some, None, Option, sym, refl, subst}
 use Rattle.std.proofs.lemmas.Bool.{true≢false}
 use Rattle.book.specs.declared.Slot.{Slot}
 use Rattle.book.specs.Keys.{key_of, empty}
 use Rattle.book.specs.Book.{Call, Sealing, setting, clearing, asking, hits, good_key, key_in, Opened}
-use Rattle.book.specs.Stands.{Agrees, Stands, Noted}
+use Rattle.book.specs.Stands.{Agrees, Noted}
 
 -- a slot that is set anew where b, and stays otherwise
 struck : (b : Bool) (new old : Slot) (k was : Option (List ℕ)) (opened : ℕ → Type 0) → new.last ≡ 0 → key_of new ≡ k → Agrees old was opened → Agrees (cond b new old) (cond b k was) (λ m. (b ≡ false) × opened m)

@@ -1,5 +1,5 @@
 -- What setting, clearing and asking answer, in the order of their checks.
-use Rattle.std.specs.Prelude.{◌≡◌, ℕ, Bool, cond, not, List, Some, None, Ok, Err, Option, Result, nat_lt}
+use Rattle.std.specs.Prelude.{◌≡◌, ℕ, cond, List, Some, None, Ok, Err, Option, Result, nat_lt}
 use Rattle.std.specs.Option.{option_map}
 use Rattle.refusal.specs.declared.Refusal.{Refusal}
 use Rattle.refusal.specs.declared.Refusal.TheVariants.{NoSlot, KeyLength}

@@ -1,5 +1,5 @@
 -- The law of an opening, by the book alone.
-use Rattle.std.specs.Prelude.{◌≡◌, ℕ, ◌<◌, ◌≤◌, Bool, true, List, ◌++◌, length, get_or, drop, is_ok, Some, Ok, Err, Option, Result, slice_index_or}
+use Rattle.std.specs.Prelude.{◌≡◌, ℕ, ◌<◌, ◌≤◌, Bool, true, List, ◌++◌, length, get_or, drop, is_ok, Some, Ok, Result, slice_index_or}
 use Rattle.std.specs.List.{flat_map, AllByRecursion as All}
 use Rattle.book.specs.declared.Slot.{Slot}
 use Rattle.book.specs.Keys.{key_of, empty}

@@ -1,7 +1,6 @@
 -- What calls leave in the book.
-use Rattle.std.proofs.Common.{◌≡◌, ℕ, ◌<◌, ◌≤◌, Bool, true, false, cond, ◌&&◌, eqb, ltb, ◌⊎◌, List, [], ◌∷◌, ◌++◌, length, get_or, Some, None, Option, sym, refl, ap, ◌∙◌, subst, inl, inr, ⊎_elim, arith}
-use Rattle.std.proofs.lemmas.Bool.{true≢false, both_ways, and_parts, ne_eqb}
-use Rattle.refusal.specs.declared.Refusal.{Refusal}
+use Rattle.std.proofs.Common.{◌≡◌, ℕ, ◌<◌, Bool, true, false, cond, ◌&&◌, eqb, ltb, List, ◌∷◌, get_or, Some, None, sym, refl, ap, ◌∙◌, inl, inr, ⊎_elim, arith}
+use Rattle.std.proofs.lemmas.Bool.{and_parts, ne_eqb}
 use Rattle.refusal.specs.declared.Refusal.TheVariants.{NoSlot, KeyLength}
 use Rattle.hash.specs.declared.Strength.{Strength}
 use Rattle.stream.specs.Stream.{StreamOf}
@@ -15,7 +14,7 @@ use Rattle.book.proofs.Opens.{key_within}
 use Rattle.sheet.specs.Sheet.{sheet_line}
 use Rattle.sheet.proofs.Lines as lines
 use Rattle.sheet.proofs.Shapes.{text_bytes}
-use Rattle.boxlaws.specs.Keeps.{Real, SameFor, Unheard, NotFor, OtherSlotsKeep, RefusedKeep}
+use Rattle.boxlaws.specs.Keeps.{SameFor, Unheard, NotFor, OtherSlotsKeep, RefusedKeep}
 
 and_false : (a b : Bool) → b ≡ false → (a && b) ≡ false
 and_false true b e = e

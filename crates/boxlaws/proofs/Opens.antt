@@ -1,11 +1,11 @@
 -- What the law of the box says of a new box, and of a key that was just set.
-use Rattle.std.proofs.Common.{◌≡◌, ℕ, ◌<◌, ◌≤◌, Bool, true, false, cond, ◌&&◌, eqb, ltb, ◌⊎◌, List, [], ◌∷◌, ◌++◌, length, drop, is_ok, Some, None, Ok, Err, Option, Result, sym, refl, ap, ◌∙◌, subst, ⊎_elim, arith}
+use Rattle.std.proofs.Common.{◌≡◌, ℕ, ◌<◌, ◌≤◌, Bool, true, false, cond, ◌&&◌, eqb, ltb, List, [], ◌∷◌, ◌++◌, length, drop, is_ok, Some, Ok, Err, Option, Result, sym, refl, ap, ◌∙◌, subst, ⊎_elim, arith}
 use Rattle.std.proofs.lemmas.Bool.{true≢false, false≢true, and_from, eq-eqb, lt-ltb}
 use Rattle.refusal.specs.declared.Refusal.{Refusal}
 use Rattle.kinds.specs.Text.{Sheet}
 use Rattle.book.specs.Answers.{set_checks}
-use Rattle.book.specs.Book.{Call, Sealing, setting, clearing, hits, good_key, key_in, slot_count, most_items, most_bytes, Opened, Fresh}
-use Rattle.book.specs.Law.{Seals, OpenLaw}
+use Rattle.book.specs.Book.{Call, Sealing, setting, hits, good_key, key_in, slot_count, most_bytes}
+use Rattle.book.specs.Law.{OpenLaw}
 use Rattle.sheet.specs.Sealing.{SealedAs, Written}
 use Rattle.sheet.proofs.Answered.{checks_pass}
 use Rattle.sheet.proofs.Measured.{sheet_measured}

@@ -1,19 +1,19 @@
 -- A line that opened is refused when it comes again.
-use Rattle.std.proofs.Common.{◌≡◌, ℕ, ◌<◌, ◌≤◌, Bool, true, false, cond, not, ◌&&◌, eqb, ltb, ◌⊎◌, List, length, get_or, is_ok, Some, None, Ok, Err, Option, Result, sym, refl, ap, ◌∙◌, subst, ⊎_elim, arith}
+use Rattle.std.proofs.Common.{◌≡◌, ℕ, ◌<◌, true, cond, not, eqb, ltb, List, length, get_or, is_ok, Some, None, Ok, Err, Option, Result, sym, refl, ap, ◌∙◌, subst, ⊎_elim, arith}
 use Rattle.std.proofs.lemmas.Bool.{false≢true, and_from, lt-ltb, le-ltb, eq-eqb}
 use Rattle.refusal.specs.declared.Refusal.{Refusal}
 use Rattle.refusal.specs.declared.Refusal.TheVariants.{StaleSerial}
 use Rattle.hash.specs.declared.Strength.{Strength}
 use Rattle.hash.specs.Strength.{siv_length}
 use Rattle.stream.specs.Stream.{StreamOf}
-use Rattle.sealed.specs.Line.{Parts, Lawful, SealedLine, sealed_line}
+use Rattle.sealed.specs.Line.{Parts, Lawful, sealed_line}
 use Rattle.sealed.proofs.Pieces.{one_reading}
 use Rattle.book.specs.declared.Slot.{Slot}
 use Rattle.book.specs.Keys.{key_of, empty}
-use Rattle.book.specs.Book.{hits, slot_count}
+use Rattle.book.specs.Book.{slot_count}
 use Rattle.keybox.specs.Opening.{first_checks, sheet_text, Answered, LineAnswered, SlotsAfter}
 use Rattle.keybox.proofs.Judged.{chain_facts, chain_stale}
-use Rattle.keybox.proofs.Passing.{split_ok, not_false}
+use Rattle.keybox.proofs.Passing.{split_ok}
 
 module _ {X : Type 0} (f : StreamOf) (s : Strength) (number : ℕ) (reading : List ℕ → Option X) (l : List ℕ) (slots next : List Slot) where
   -- the line's slot after the first time

@@ -1,14 +1,12 @@
-use mathlib.Core.Path.{◌≡◌, refl, sym, ap, ◌∙◌}
-use mathlib.Core.Logic.{◌⊎◌, inl, inr, ⊎_elim}
-use mathlib.Core.Bool.{Bool, true, false, cond}
-use Prim.Native.Nat.{ℕ, zero, suc, ◌+◌, ◌-◌, ◌*◌, ◌/◌, ◌%◌, ◌^◌, ◌<◌}
+use mathlib.Core.Path.{◌≡◌, sym, ap, ◌∙◌}
+use mathlib.Core.Bool.{cond}
+use Prim.Native.Nat.{ℕ, ◌-◌, ◌*◌, ◌/◌, ◌%◌, ◌^◌, ◌<◌}
 use native.Mathlib.Nat.{mul-one, mul-zero}
-use native.Mathlib.Omega.{arith}
-use lib.Bits.{bit_xor, bit_or, xor_assoc, xor_zero_r, xor_zero_l}
-use lib.Dec.{T, eqb}
+use lib.Bits.{bit_xor, bit_or, xor_assoc, xor_zero_l}
+use lib.Dec.{eqb}
 use borrow.Author.Tests.{ne_eqb}
-use Rattle.field.specs.Field.{xtime, times, product, inverse, Inverse, affine}
-use Rattle.field.proofs.Bytes.{every, same}
+use Rattle.field.specs.Field.{product, inverse, Inverse, affine}
+use Rattle.field.proofs.Bytes.{same}
 
 -- a turn of the product: the bit is 1
 pub bit_one : (sum a b rest : ℕ) → b % 2 ≡ 1 → bit_xor sum (bit_xor (a * (b % 2)) rest) ≡ bit_xor (bit_xor sum a) rest

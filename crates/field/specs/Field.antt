@@ -1,7 +1,7 @@
 -- Bytes as elements of GF(2^8), as in FIPS 197, section 4: the bits of a byte
 -- are the coefficients of a polynomial over GF(2), lowest first, and products
 -- are taken modulo x^8 + x^4 + x^3 + x + 1, which is 11b.
-use Rattle.std.specs.Prelude.{◌≡◌, List, [], ◌∷◌, ℕ, zero, suc, ◌+◌, ◌*◌, ◌/◌, ◌%◌, ◌^◌, ◌<◌}
+use Rattle.std.specs.Prelude.{◌≡◌, ℕ, zero, suc, ◌+◌, ◌*◌, ◌/◌, ◌%◌, ◌^◌}
 use Rattle.std.specs.Int.Bits.{bit_xor}
 
 -- The product with x (section 4.2.1): the bits move up by one, and an x^8 that

@@ -1,5 +1,5 @@
 -- Numbers in strings of bytes.
-use Rattle.std.proofs.Common.{◌≡◌, ℕ, zero, suc, ◌+◌, ◌-◌, ◌*◌, ◌/◌, ◌%◌, ◌^◌, ◌<◌, ◌≤◌, ◌≢◌, List, [], ◌∷◌, ◌++◌, length, get_or, take, drop, set, sym, refl, ap, ◌∙◌, mul-zero, mul-suc, arith, below_more}
+use Rattle.std.proofs.Common.{◌≡◌, ℕ, zero, suc, ◌+◌, ◌*◌, ◌/◌, ◌%◌, ◌^◌, ◌<◌, ◌≤◌, ◌≢◌, List, [], ◌∷◌, ◌++◌, length, get_or, take, drop, set, sym, refl, ap, ◌∙◌, mul-zero, mul-suc, arith, below_more}
 use Rattle.std.proofs.lemmas.List.{drop_more, drop-drop, ext_get_or, take-append-le, drop-append-le, length-drop, length-take-le, take_at, get_or-set_same, get_or-set_other}
 use Rattle.std.proofs.lemmas.Nat.{field_of}
 use lib.Pow.{mod-mod-pow}

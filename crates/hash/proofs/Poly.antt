@@ -1,5 +1,5 @@
 -- The polynomial step by digits of three bits.
-use Rattle.std.proofs.Common.{◌≡◌, ℕ, ◌+◌, ◌-◌, ◌*◌, ◌/◌, ◌%◌, ◌^◌, ◌<◌, ◌≤◌, sym, refl, ap, ◌∙◌, add-zero, mul_assoc, mul_comm, add-mul, pow-suc, mul-zero, mul-add, add-one, arith}
+use Rattle.std.proofs.Common.{◌≡◌, ℕ, ◌+◌, ◌-◌, ◌*◌, ◌/◌, ◌%◌, ◌^◌, ◌<◌, ◌≤◌, sym, ap, ◌∙◌, add-zero, mul_assoc, mul_comm, add-mul, pow-suc, mul-zero, mul-add, add-one, arith}
 use native.Mathlib.Nat.{add-mul-mod_self_right, div-add-mod, div-div-eq-div-mul}
 use Rattle.std.proofs.lemmas.Nat.{mul-le}
 use Rattle.hash.specs.Hash.{prime}

@@ -1,5 +1,5 @@
 -- From a hasher that has taken in the whole input to the joined results.
-use Rattle.std.proofs.Common.{◌≡◌, ℕ, ◌+◌, ◌-◌, ◌*◌, ◌%◌, ◌^◌, ◌<◌, ◌≤◌, List, [], ◌++◌, length, get_or, take, drop, sym, refl, ap, ◌∙◌, append_assoc, append-nil, arith}
+use Rattle.std.proofs.Common.{◌≡◌, ℕ, ◌+◌, ◌-◌, ◌*◌, ◌%◌, ◌^◌, ◌<◌, ◌≤◌, List, [], ◌++◌, length, get_or, take, drop, sym, ap, ◌∙◌, append_assoc, append-nil, arith}
 use Rattle.std.proofs.lemmas.List.{drop-take, take-take, get_or-take}
 use Rattle.hash.specs.declared.HashKeys.{HashKeys}
 use Rattle.hash.specs.declared.Hasher.{Hasher}
@@ -9,7 +9,7 @@ use Rattle.hash.specs.Strength.{hashes, nh_words}
 use Rattle.hash.specs.Bytes.{pad, str}
 use Rattle.hash.specs.Hash.{h_of, h_at, results, hashed, below60}
 use Rattle.hash.specs.Hasher.{Holds, ending, nh_part, poly_point}
-use Rattle.hash.specs.Subkeys.{kn_of, kp_of, ka_of, hashed_by, Reads}
+use Rattle.hash.specs.Subkeys.{kn_of, kp_of, hashed_by, Reads}
 use Rattle.hash.specs.Message.{message}
 use Rattle.hash.proofs.Results.{results_same, results_parts, get_or_below60}
 

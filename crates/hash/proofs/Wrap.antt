@@ -1,6 +1,5 @@
 -- Sums that wrap at 2^64 have the value of the plain sums, modulo 2^64.
-use Rattle.std.proofs.Common.{◌≡◌, ℕ, ◌+◌, ◌*◌, ◌%◌, ◌^◌, List, ap, ◌∙◌, add-one, arith}
-use native.Mathlib.Nat.{add-mod, mod-mod}
+use Rattle.std.proofs.Common.{◌≡◌, ℕ, ◌+◌, ◌%◌, ◌^◌, List, ap, ◌∙◌, add-one, arith}
 use Rattle.hash.specs.Nh.{groups, group}
 
 pub sum_step : (g s p q : ℕ) → s ≡ g % 2 ^ 64 → ((s + p % 2 ^ 64) % 2 ^ 64 + q % 2 ^ 64) % 2 ^ 64 ≡ (g + (p + q)) % 2 ^ 64

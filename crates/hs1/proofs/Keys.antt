@@ -1,5 +1,5 @@
 -- The subkeys of a key.
-use Rattle.std.proofs.Common.{◌≡◌, ℕ, zero, suc, ◌+◌, ◌-◌, ◌*◌, ◌/◌, ◌%◌, ◌^◌, ◌<◌, ◌≤◌, ◌⊎◌, List, [], ◌∷◌, ◌++◌, length, get_or, take, drop, replicate, sym, refl, ap, ◌∙◌, inl, inr, ⊎_elim, mod-eq_of_lt, suc-mul, zero-mul, arith}
+use Rattle.std.proofs.Common.{◌≡◌, ℕ, zero, suc, ◌+◌, ◌-◌, ◌*◌, ◌/◌, ◌%◌, ◌^◌, ◌<◌, ◌≤◌, List, [], ◌∷◌, ◌++◌, length, get_or, take, drop, replicate, sym, refl, ap, ◌∙◌, ⊎_elim, mod-eq_of_lt, suc-mul, zero-mul, arith}
 use native.Mathlib.Nat.{mod-eq-sub-mod, sub-zero}
 use Rattle.std.proofs.lemmas.List.{length-append, length-take-le, get_or_append_left, get_or-append_right, get_or-take, ext_get_or, take-replicate, drop-replicate, take-append-le, drop-append-le, length-drop}
 use Rattle.std.proofs.lemmas.Bool.{cases_lt}
@@ -9,11 +9,10 @@ use Rattle.hash.specs.declared.HashKeys.{HashKeys}
 use Rattle.hash.specs.Strength.{hashes, nh_words, siv_length, subkey_bytes}
 use Rattle.hash.specs.Bytes.{str, ints}
 use Rattle.hash.specs.Hash.{hashed, below60}
-use Rattle.hash.specs.Subkeys.{ks_of, kn_of, kp_of, ka_of, hashed_by, Reads}
+use Rattle.hash.specs.Subkeys.{kn_of, kp_of, ka_of, hashed_by, Reads}
 use Rattle.hash.proofs.Whole.{hashed_read, hashes_le}
 use Rattle.stream.specs.Stream.{StreamOf, run, masked}
 use Rattle.stream.proofs.Masks.{length_run}
-use Rattle.hs1.specs.declared.Subkeys.{Subkeys}
 use Rattle.hs1.specs.Hs1.{repeated, subkey_seed, subkey_nonce, subkeys}
 use Rattle.hs1.specs.Derived.{Derived}
 

@@ -1,6 +1,5 @@
 -- The laws of sealing and opening.
-use Rattle.std.proofs.Common.{◌≡◌, ℕ, Bool, true, false, cond, List, Some, None, Option, sym, refl, ap, ◌∙◌, ⊎_elim, arith}
-use Rattle.std.proofs.lemmas.Bool.{cases_Bool}
+use Rattle.std.proofs.Common.{◌≡◌, ℕ, Bool, true, false, cond, List, Some, None, sym, refl, ap, ◌∙◌, arith}
 use Rattle.hash.specs.declared.Strength.{Strength}
 use Rattle.stream.specs.Stream.{StreamOf}
 use Rattle.stream.proofs.Masks.{masked_masked}

@@ -1,5 +1,5 @@
 -- From the calls of the code to SIV and ciphertext.
-use Rattle.std.proofs.Common.{◌≡◌, ℕ, ◌-◌, ◌≤◌, Bool, true, false, cond, List, length, take, replicate, is_some, Some, None, Option, sym, refl, ap, ◌∙◌, subst}
+use Rattle.std.proofs.Common.{◌≡◌, ℕ, ◌-◌, Bool, true, false, cond, List, length, take, replicate, is_some, Some, None, refl, ap, ◌∙◌, subst}
 use native.Mathlib.Nat.{sub-zero}
 use lib.Bits.{bit_xor}
 use lib.Lanes.{zip2}
@@ -8,7 +8,7 @@ use Rattle.std.proofs.lemmas.Bool.{cond_both}
 use Rattle.hash.specs.declared.Strength.{Strength}
 use Rattle.hash.specs.Strength.{siv_length}
 use Rattle.hash.specs.Hash.{hashed, below60}
-use Rattle.hash.specs.Subkeys.{ks_of, hashed_by}
+use Rattle.hash.specs.Subkeys.{hashed_by}
 use Rattle.hash.specs.Message.{message}
 use Rattle.stream.specs.Stream.{StreamOf, run, masked}
 use Rattle.stream.proofs.Masks.{take_run, length_run, length_masked}

@@ -1,6 +1,6 @@
 -- Strings compared, exclusive-ored and zeroed.
-use Rattle.std.proofs.Common.{◌≡◌, ℕ, zero, suc, ◌+◌, ◌<◌, ◌≤◌, Bool, true, false, ◌&&◌, eqb, ◌⊎◌, List, [], ◌∷◌, length, get_or, sym, refl, ap, ◌∙◌, inl, inr, ⊎_elim, arith, below_more}
-use lib.Bits.{bit_xor, bit_or, xor_self, or_add_and, xor_add_and, and_le_l, and_le_r, or_zero_r}
+use Rattle.std.proofs.Common.{◌≡◌, ℕ, ◌+◌, ◌<◌, ◌≤◌, true, false, eqb, List, [], ◌∷◌, length, get_or, sym, refl, ap, ◌∙◌, ⊎_elim, arith, below_more}
+use lib.Bits.{bit_xor, bit_or, xor_self, or_add_and, xor_add_and, and_le_l, and_le_r}
 use lib.Lanes.{zip2}
 use Rattle.std.proofs.lemmas.List.{ext_get_or}
 use Rattle.std.proofs.lemmas.Simd.{get_or-zip2, length-zip2}

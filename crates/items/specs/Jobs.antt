@@ -1,6 +1,6 @@
 -- What the kind of jobs shows of its lines.
-use Rattle.std.specs.Prelude.{◌≡◌, ℕ, ◌+◌, ◌-◌, ◌<◌, ◌≤◌, true, List, [], ◌∷◌, ◌++◌, length, ℤ, pos, Some, None, codes, Option, ◌≢◌, nat_le, refl}
-use Rattle.std.proofs.Common.{sym, ap, ◌∙◌, append_assoc, arith, length-append}
+use Rattle.std.specs.Prelude.{◌≡◌, ℕ, ◌<◌, ◌≤◌, true, List, [], ◌∷◌, ◌++◌, length, ℤ, pos, Some, None, codes, ◌≢◌, nat_le, refl}
+use Rattle.std.proofs.Common.{sym, ap, ◌∙◌, append_assoc, arith}
 use Rattle.shape.specs.Decimal.{digits, InRange}
 use Rattle.shape.specs.Form.{Form, Args, form, none, number, inner, written, Word, Shaped, ShapedArgs, WellShaped}
 use Rattle.shape.proofs.Signs.{digits_number, length_digits}

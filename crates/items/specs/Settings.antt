@@ -1,7 +1,7 @@
 -- What the kind of settings shows of its lines.
-use Rattle.std.specs.Prelude.{◌≡◌, ℕ, suc, ◌+◌, ◌<◌, ◌≤◌, true, List, [], ◌∷◌, ◌++◌, length, ℤ, pos, negsuc, Some, None, codes, Option, ◌≢◌, unsigned_abs, refl}
-use Rattle.std.proofs.Common.{sym, ap, ◌∙◌, ⊎_elim, append_assoc, arith, length-append}
-use Rattle.shape.specs.Decimal.{digits, figures, InRange}
+use Rattle.std.specs.Prelude.{◌≡◌, ℕ, ◌≤◌, true, List, [], ◌∷◌, ◌++◌, length, ℤ, pos, Some, None, codes, ◌≢◌, unsigned_abs, refl}
+use Rattle.std.proofs.Common.{ap, ◌∙◌, ⊎_elim, append_assoc, arith}
+use Rattle.shape.specs.Decimal.{digits, InRange}
 use Rattle.shape.specs.Form.{form, none, number, inner, written, Word, WellShaped}
 use Rattle.shape.proofs.Figures.{length_figures}
 use Rattle.shape.proofs.Signs.{digits_number, length_digits}

@@ -1,5 +1,5 @@
 -- The checks of an opening, one after the other.
-use Rattle.std.proofs.Common.{◌≡◌, ℕ, ◌-◌, ◌<◌, ◌≤◌, Bool, true, false, not, eqb, ltb, List, [], ◌++◌, length, take, drop, replicate, is_some, Some, None, Ok, Err, Option, Result, unwrap_or, sym, refl, ap, ◌∙◌, subst, arith}
+use Rattle.std.proofs.Common.{◌≡◌, ℕ, ◌-◌, ◌<◌, ◌≤◌, Bool, true, false, not, eqb, ltb, List, [], ◌++◌, length, take, drop, replicate, Some, None, Err, Option, Result, unwrap_or, sym, refl, ap, ◌∙◌, subst, arith}
 use Rattle.std.specs.Option.{option_map}
 use Rattle.std.proofs.lemmas.List.{take_at}
 use Rattle.std.proofs.lemmas.Bool.{true≢false, false≢true, le-ltb, lt-ltb, eq-eqb, ne_eqb, leb-true}
@@ -7,7 +7,7 @@ use Rattle.refusal.specs.declared.Refusal.{Refusal}
 use Rattle.refusal.specs.declared.Refusal.TheVariants.{OtherKind, EmptySlot, StaleSerial, SivLength, ShortWork, WrongSiv}
 use Rattle.hash.specs.declared.Strength.{Strength}
 use Rattle.hash.specs.Strength.{siv_length}
-use Rattle.hs1.specs.Checks.{refuse_if, or_else, cleared}
+use Rattle.hs1.specs.Checks.{refuse_if, or_else}
 use Rattle.hs1.specs.Calls.{OpenedThere}
 use Rattle.hs1.specs.Seal.{opened}
 use Rattle.stream.specs.Stream.{StreamOf}

@@ -1,29 +1,28 @@
 -- What the box answers is what it asks of a slot: a list seals to the line.
-use Rattle.std.proofs.Common.{◌≡◌, ℕ, ◌<◌, ◌≤◌, Bool, true, false, not, eqb, ltb, ◌⊎◌, List, [], ◌++◌, length, get_or, drop, Some, None, Ok, Err, Option, unwrap_or, sym, refl, ap, ◌∙◌, subst, ⊎_elim, arith}
+use Rattle.std.proofs.Common.{◌≡◌, ℕ, ◌<◌, ◌≤◌, Bool, true, false, not, eqb, ltb, List, [], ◌++◌, length, get_or, drop, Some, None, Ok, Err, Option, unwrap_or, sym, refl, ap, ◌∙◌, subst, ⊎_elim, arith}
 use Rattle.std.specs.List.{flat_map}
-use Rattle.std.proofs.lemmas.List.{get_or_past}
-use Rattle.std.proofs.lemmas.Bool.{true≢false, eqb-true, ltb-true, ltb-false, leb-true, le-ltb, lt-ltb, eq-eqb, cases_lt}
+use Rattle.std.proofs.lemmas.Bool.{true≢false, eqb-true, ltb-true, ltb-false, leb-true, le-ltb, lt-ltb, eq-eqb}
 use Rattle.refusal.specs.declared.Refusal.{Refusal}
 use Rattle.hash.specs.declared.Strength.{Strength}
 use Rattle.hash.specs.Strength.{siv_length}
 use Rattle.stream.specs.Stream.{StreamOf}
-use Rattle.hs1.specs.Seal.{siv, ciphertext, opened}
+use Rattle.hs1.specs.Seal.{opened}
 use Rattle.hs1.proofs.Laws.{opened_was_sealed, sealed_opens}
 use Rattle.shape.specs.Form.{WellShaped}
-use Rattle.kinds.specs.Text.{Fills, Reads}
+use Rattle.kinds.specs.Text.{Fills}
 use Rattle.kinds.proofs.Sheets.{one_answer, reads_its_text}
 use Rattle.sealed.specs.Line.{Parts, Lawful, SealedLine, header_of, sealed_line}
 use Rattle.sealed.proofs.Pieces.{one_reading}
 use Rattle.book.specs.declared.Slot.{Slot}
 use Rattle.book.specs.Keys.{key_of, empty}
 use Rattle.book.specs.Book.{slot_count}
-use Rattle.book.specs.Law.{Seals, Passes}
+use Rattle.book.specs.Law.{Passes}
 use Rattle.sheet.specs.Sheet.{nonce_of, sealed_parts, sheet_line}
 use Rattle.sheet.proofs.Lines as lines
 use Rattle.sheet.proofs.Lists.{head, ready}
 use Rattle.keybox.specs.Opening.{first_checks, sheet_text, Answered}
 use Rattle.keybox.proofs.Opened.{length_opened}
-use Rattle.keybox.proofs.Judged.{chain, chain_none, chain_facts}
+use Rattle.keybox.proofs.Judged.{chain_none, chain_facts}
 
 pub not_false : (b : Bool) → not b ≡ false → b ≡ true
 not_false true e = refl

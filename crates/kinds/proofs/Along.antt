@@ -1,10 +1,10 @@
 -- The steps of reading a text line by line.
-use Rattle.std.proofs.Common.{◌≡◌, ℕ, ◌+◌, ◌-◌, ◌<◌, ◌≤◌, Bool, true, false, ◌⊎◌, List, [], ◌∷◌, ◌++◌, length, get_or, take, drop, set, is_some, Some, None, Option, sym, refl, ap, ◌∙◌, subst, ap₂, inl, inr, ⊎_elim, arith}
+use Rattle.std.proofs.Common.{◌≡◌, ℕ, ◌+◌, ◌-◌, ◌<◌, ◌≤◌, List, [], ◌∷◌, ◌++◌, length, get_or, take, drop, set, Some, Option, sym, refl, ap, ◌∙◌, subst, ap₂, inl, inr, arith}
 use Rattle.std.specs.List.{AllByRecursion as All}
 use Rattle.std.proofs.ByRecursion.{All-get_or, All-more}
-use Rattle.std.proofs.lemmas.List.{take_all, drop_all, drop-drop, length-drop, get_or-drop, take-append-drop, take_more, take_more_set, drop-set-lt, drop_more, take_rest, length-take-le}
+use Rattle.std.proofs.lemmas.List.{take_all, drop_all, drop-drop, length-drop, get_or-drop, take-append-drop, take_more, take_more_set, drop-set-lt, take_rest, length-take-le}
 use Rattle.kinds.specs.Limits.{most_items}
-use Rattle.kinds.specs.Text.{lines, onto, ColumnOf, Good, items_of, Reads, Faulty, FirstLine, NextLine}
+use Rattle.kinds.specs.Text.{lines, ColumnOf, Good, items_of, Reads, Faulty, FirstLine, NextLine}
 use Rattle.kinds.proofs.Cut.{lines_some}
 use Rattle.kinds.proofs.Sheets.{good_items, items_good, items_length, items_at}
 

@@ -1,13 +1,13 @@
 -- Texts of lists, for any kind: by its lawful items, their lines, and which item has a line.
-use Rattle.std.proofs.Common.{◌≡◌, ℕ, zero, suc, ◌+◌, ◌-◌, ◌<◌, ◌≤◌, Bool, true, false, ◌⊎◌, List, [], ◌∷◌, ◌++◌, map, length, get_or, take, drop, is_some, Some, None, Option, sym, refl, ap, ◌∙◌, subst, ap₂, inl, inr, ⊎_elim, arith}
+use Rattle.std.proofs.Common.{◌≡◌, ℕ, zero, suc, ◌+◌, ◌-◌, ◌<◌, ◌≤◌, Bool, true, false, List, [], ◌∷◌, ◌++◌, length, get_or, take, is_some, Some, None, Option, sym, refl, ap, ◌∙◌, subst, ap₂, ⊎_elim, arith}
 use Rattle.std.specs.List.{flat_map, AllByRecursion as All}
-use Rattle.std.proofs.ByRecursion.{All-get_or, All-more, All-take}
-use Rattle.std.proofs.lemmas.List.{length-map, get_or-take, length-take-le, take_all}
-use Rattle.std.proofs.lemmas.Bool.{cases_eq, cases_lt, cases_order}
+use Rattle.std.proofs.ByRecursion.{All-get_or}
+use Rattle.std.proofs.lemmas.List.{get_or-take, length-take-le}
+use Rattle.std.proofs.lemmas.Bool.{cases_eq, cases_order}
 use Rattle.shape.specs.Form.{WellShaped}
 use Rattle.shape.proofs.Columns.{one_column}
 use Rattle.kinds.specs.Limits.{most_items}
-use Rattle.kinds.specs.Text.{lines, ColumnOf, AllLawful, text_of, Good, add, items_of, Reads, Faulty, Checks, SameText, ReadsItsText, OneAnswer}
+use Rattle.kinds.specs.Text.{lines, ColumnOf, AllLawful, text_of, Good, add, items_of, Reads, Faulty, SameText, ReadsItsText, OneAnswer}
 use Rattle.kinds.proofs.Cut.{shaped_first, lines_join}
 
 pub same_column : (l : List ℕ) (c c' : ℕ) → ColumnOf l c → ColumnOf l c' → c ≡ c'

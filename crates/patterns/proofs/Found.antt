@@ -1,15 +1,15 @@
 -- The values that make a line, found byte by byte of the pattern.
-use Rattle.std.proofs.Common.{◌≡◌, ℕ, zero, suc, ◌+◌, ◌-◌, ◌<◌, ◌≤◌, Bool, true, false, cond, not, ◌&&◌, ◌||◌, eqb, ltb, leb, ◌⊎◌, List, [], ◌∷◌, ◌++◌, length, get_or, take, drop, set, ℤ, Some, None, MatchBool, sym, refl, ap, ◌∙◌, subst, ap₂, inl, inr, ⊎_elim, append_assoc, arith}
+use Rattle.std.proofs.Common.{◌≡◌, ℕ, ◌+◌, ◌<◌, ◌≤◌, Bool, true, false, cond, not, ◌&&◌, eqb, ltb, leb, List, [], ◌∷◌, ◌++◌, length, get_or, take, drop, set, ℤ, Some, None, MatchBool, sym, refl, ap, ◌∙◌, subst, ap₂, ⊎_elim, append_assoc, arith}
 use Rattle.std.proofs.lemmas.List.{append-nil, drop_more, drop_all, drop-drop, drop_at, take_all, take-append-drop, take_more_set, length-drop}
 use Rattle.std.proofs.lemmas.Bool.{cond-true, cond-false, eq-eqb, ne_eqb, and_parts, and_from, both_ways, not-true, eqb-true, eqb-false, ltb-true, le-leb, or_right, false≢true, cases_Bool}
 use Rattle.shape.specs.declared.value.Leading.{Leading}
-use Rattle.shape.specs.Decimal.{digits, InRange, LongestNumber, LeadsNumber}
+use Rattle.shape.specs.Decimal.{digits, LongestNumber, LeadsNumber}
 use Rattle.shape.specs.Form.{Digit}
 use Rattle.shape.proofs.Fronts.{leading_found, leading_some}
 use Rattle.patterns.specs.declared.Range.{Range}
-use Rattle.patterns.specs.Pattern.{first_digits, spelt, within, in_ranges, Makes, figure, fitting, ReadsPattern}
+use Rattle.patterns.specs.Pattern.{spelt, within, in_ranges, Makes, figure, fitting, ReadsPattern}
 use Rattle.patterns.specs.Steps.{NextValue}
-use Rattle.patterns.proofs.Spell.{spelt_number, spelt_byte, within_in_range}
+use Rattle.patterns.proofs.Spell.{spelt_byte, within_in_range}
 
 pub digit_figure : (b : ℕ) → Digit b → figure b ≡ true
 digit_figure b d = or_right (eqb b 45) (leb 48 b && leb b 57) (and_from (leb 48 b) (leb b 57) (le-leb 48 b d.0) (le-leb b 57 d.1))

@@ -1,5 +1,5 @@
 -- What a format writes, by the digits of its numbers.
-use Rattle.std.proofs.Common.{◌≡◌, ℕ, ◌^◌, ◌<◌, List, [], ◌++◌, IfOk, Ok, Err, codes, decimal, Result, sym, refl, ap, ◌∙◌, append_assoc, arith}
+use Rattle.std.proofs.Common.{◌≡◌, ℕ, ◌^◌, ◌<◌, List, [], ◌++◌, IfOk, Ok, Err, codes, decimal, Result, sym, refl, ap, ◌∙◌, append_assoc}
 use Rattle.refusal.specs.declared.Refusal.{Refusal}
 use Rattle.refusal.specs.declared.Refusal.TheVariants.{ShortWork, SmallTray, PastStream, ShortOutput, UnknownSuite, NoSlot, KeyLength, RollUsedUp, UnlawfulItem, LargeSheet, NoSealedLine, OtherKind, WrongSiv, NoSheet, TooLong, SivLength, NonceLength, EmptySlot, StaleSerial}
 use Rattle.refusal.specs.Number.{number_of}

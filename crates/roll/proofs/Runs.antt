@@ -1,6 +1,6 @@
 -- A run of draws gives serials that rise by one.
-use Rattle.std.proofs.Common.{◌≡◌, ℕ, zero, suc, ◌+◌, ◌<◌, ◌≤◌, List, [], ◌∷◌, length, get_or, sym, refl, ap, ◌∙◌, arith}
-use Rattle.roll.specs.Draws.{Run, Rising, Distinct, NeverRepeats}
+use Rattle.std.proofs.Common.{◌≡◌, ℕ, zero, suc, ◌+◌, List, [], ◌∷◌, length, arith}
+use Rattle.roll.specs.Draws.{Run, Rising, NeverRepeats}
 
 rises : (was is : ℕ) (serials : List ℕ) → Run was serials is → Rising was serials
 rises was is [] r k l = absurd (omega arith)

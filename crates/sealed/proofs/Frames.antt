@@ -1,20 +1,19 @@
 -- From the pieces that were read to the sheet.
-use Rattle.std.proofs.Common.{◌≡◌, ℕ, ◌+◌, ◌-◌, ◌<◌, ◌≤◌, Bool, true, List, [], ◌∷◌, ◌++◌, length, get_or, take, drop, Ok, Err, codes, sym, refl, ap, ◌∙◌, ap₂, append_assoc, arith}
-use Rattle.std.proofs.lemmas.List.{append_cancel_right, take-append-drop, drop_at, drop-drop, length-drop}
+use Rattle.std.proofs.Common.{◌≡◌, ℕ, ◌+◌, ◌-◌, ◌≤◌, Bool, true, List, [], ◌∷◌, ◌++◌, length, take, drop, Ok, Err, codes, sym, ap, ◌∙◌, ap₂, arith}
+use Rattle.std.proofs.lemmas.List.{append_cancel_right, take-append-drop, drop_at, drop-drop}
 use Rattle.shape.specs.Decimal.{figures}
-use Rattle.shape.specs.Outcome.{Read, Fault, Outcome, CarriesTo, Then, Is}
+use Rattle.shape.specs.Outcome.{Read, Fault, CarriesTo, Is}
 use Rattle.shape.proofs.Carry.{carries_none}
 use Rattle.sealed.specs.declared.unchecked.reading.Number.{Number}
 use Rattle.sealed.specs.declared.unchecked.reading.Digits.{Digits}
-use Rattle.sealed.specs.declared.unchecked.reading.Field.{Field}
 use Rattle.sealed.specs.declared.unchecked.reading.Field.TheVariants.{Siv, Text}
-use Rattle.sealed.specs.Frame.{Value, HexOf, FromEnd, FromText, FromSiv, FromSerial, FromKind, Whole, Found, Missed}
+use Rattle.sealed.specs.Frame.{HexOf, FromEnd, FromText, FromSiv, FromSerial, FromKind, Whole, Found}
 use Rattle.sealed.specs.Hex.{hex_of, bytes_of}
 use Rattle.sealed.specs.Limits.{last_slot, first_kind, last_kind, first_serial, last_serial}
 use Rattle.sealed.specs.Line.{Parts, Lawful, header_of, sealed_line}
 use Rattle.sealed.specs.Sheet.{ReadsNumber, ReadsDigits, allowed}
 use Rattle.sealed.proofs.Hexes.{bytes_hex, bytes_small}
-use Rattle.sealed.proofs.Pieces.{Inside, Closing, found_goes, missed_fault, found_spells, slots, kinds, serials, sivs, texts, from_kind, from_serial, from_siv, from_text, from_end, spelling, spelling_more, spelt, header_more}
+use Rattle.sealed.proofs.Pieces.{found_goes, missed_fault, found_spells, slots, kinds, serials, sivs, texts, from_kind, from_serial, from_siv, from_text, from_end, spelling, spelling_more, spelt, header_more}
 
 -- digits that were read are those of the bytes that they write
 coded : (a : ℕ → Bool) (t : List ℕ) → HexOf a t → (t ≡ hex_of (bytes_of t)) × (a (length (bytes_of t)) ≡ true)

@@ -1,12 +1,11 @@
 -- How long headers and lines are.
-use Rattle.std.proofs.Common.{◌≡◌, ℕ, ◌+◌, ◌*◌, ◌^◌, ◌<◌, ◌≤◌, true, List, [], ◌∷◌, ◌++◌, length, replicate, sym, refl, ap, ◌∙◌, arith, length-append}
+use Rattle.std.proofs.Common.{◌≡◌, ℕ, ◌+◌, ◌*◌, ◌≤◌, true, List, length, replicate, refl, ap, arith, length-append}
 use Rattle.std.proofs.lemmas.List.{length-replicate}
 use Rattle.std.proofs.lemmas.Bool.Decides.{nat_tests}
 use Rattle.shape.specs.Decimal.{figures}
-use Rattle.shape.proofs.Figures.{length_one, length_figures, figures_are}
-use Rattle.sealed.specs.Hex.{hex_of}
-use Rattle.sealed.specs.Limits.{siv_length, text_length, longest_siv, longest_text, last_slot, last_kind, last_serial}
-use Rattle.sealed.specs.Line.{Parts, LawfulHeader, Lawful, SealedLine, Longest, LongestHeader, header_of, rest_of, sealed_line}
+use Rattle.shape.proofs.Figures.{length_one, length_figures}
+use Rattle.sealed.specs.Limits.{siv_length, text_length, longest_siv, longest_text, last_serial}
+use Rattle.sealed.specs.Line.{Parts, Lawful, SealedLine, Longest, LongestHeader, header_of, rest_of, sealed_line}
 use Rattle.sealed.proofs.Hexes.{length_hex}
 use Rattle.sealed.proofs.Pieces.{zero_bytes}
 

@@ -1,12 +1,12 @@
 -- The pieces of a sealed line, one after the other, and the line that they make.
-use Rattle.std.proofs.Common.{◌≡◌, ℕ, zero, suc, ◌+◌, ◌-◌, ◌*◌, ◌^◌, ◌<◌, ◌≤◌, Bool, true, ◌⊎◌, List, [], ◌∷◌, ◌++◌, length, get_or, take, drop, replicate, Ok, Err, codes, Result, sym, refl, ap, ◌∙◌, ap₂, inl, inr, ⊎_elim, append_assoc, arith, length-append}
+use Rattle.std.proofs.Common.{◌≡◌, ℕ, zero, suc, ◌+◌, ◌-◌, ◌^◌, ◌<◌, ◌≤◌, Bool, true, List, [], ◌∷◌, ◌++◌, length, get_or, take, drop, replicate, Ok, Err, codes, sym, refl, ap, ◌∙◌, ap₂, ⊎_elim, append_assoc, arith}
 use Rattle.std.specs.List.{AllByRecursion as All}
-use Rattle.std.proofs.lemmas.List.{append_cancel_left, take-append-drop, take_at, drop_at, drop-drop, length-take-le, length-drop, length-replicate}
+use Rattle.std.proofs.lemmas.List.{append_cancel_left, take-append-drop, take_at, drop_at, drop-drop, length-take-le, length-replicate}
 use Rattle.std.proofs.ByRecursion.{All-weaker}
 use Rattle.shape.specs.Decimal.{figures}
 use Rattle.shape.specs.Form.{Digit}
 use Rattle.shape.specs.Outcome.{Read, Fault, Outcome, shift, CarriesTo, Then, Is}
-use Rattle.shape.specs.Token.{Munch, Token}
+use Rattle.shape.specs.Token.{Token}
 use Rattle.shape.proofs.Carry.{shift_shift}
 use Rattle.shape.proofs.Figures.{figures_one, same_figures}
 use Rattle.shape.proofs.Lines.{Apart, Line}
@@ -15,7 +15,7 @@ use Rattle.shape.proofs.Tokens.{parts_agree}
 use Rattle.sealed.specs.Frame.{Value, HexOf, FromEnd, FromText, FromSiv, FromSerial, FromKind, Whole, Found, Missed}
 use Rattle.sealed.specs.Hex.{Byte, HexDigit, hex_of}
 use Rattle.sealed.specs.Limits.{last_slot, first_kind, last_kind, first_serial, last_serial, siv_length, text_length}
-use Rattle.sealed.specs.Line.{Parts, LawfulHeader, Lawful, SealedLine, OneReading, header_of, rest_of, sealed_line}
+use Rattle.sealed.specs.Line.{Parts, Lawful, SealedLine, OneReading, header_of, rest_of, sealed_line}
 use Rattle.sealed.proofs.Hexes.{hex_digits, same_hex}
 use Rattle.sealed.proofs.Values.{figures_digits}
 

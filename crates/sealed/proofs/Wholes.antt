@@ -1,5 +1,5 @@
 -- Texts that are a number or bytes in hexadecimal as a whole.
-use Rattle.std.proofs.Common.{◌≡◌, ℕ, ◌+◌, ◌*◌, ◌/◌, ◌%◌, ◌<◌, ◌≤◌, ◌⊎◌, List, ◌++◌, length, take, drop, Ok, Err, sym, refl, ap, ◌∙◌, subst, inl, inr, ⊎_elim, arith}
+use Rattle.std.proofs.Common.{◌≡◌, ℕ, ◌+◌, ◌*◌, ◌/◌, ◌%◌, ◌<◌, ◌≤◌, List, length, take, drop, Err, sym, ap, ◌∙◌, subst, ⊎_elim, arith}
 use Rattle.std.specs.List.{AllByRecursion as All}
 use Rattle.std.proofs.lemmas.List.{take_all, take-append-drop}
 use Rattle.std.proofs.lemmas.Bool.{cases_lt}
@@ -7,9 +7,9 @@ use Rattle.shape.specs.Column.{Front}
 use Rattle.shape.specs.Decimal.{figures}
 use Rattle.shape.specs.Token.{Token, Munch}
 use Rattle.sealed.specs.Frame.{Value}
-use Rattle.sealed.specs.Hex.{Byte, HexDigit, hex_of, bytes_of}
+use Rattle.sealed.specs.Hex.{HexDigit, hex_of, bytes_of}
 use Rattle.sealed.specs.Limits.{last_serial}
-use Rattle.sealed.proofs.Hexes.{length_hex, hex_digits, hex_bytes, bytes_small}
+use Rattle.sealed.proofs.Hexes.{length_hex, hex_bytes}
 
 module _ (T : List ℕ → Type 0) (s : List ℕ) where
   -- a whole text begins with each of its front parts

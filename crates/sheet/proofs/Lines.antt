@@ -1,7 +1,7 @@
 -- A sealed line of a sheet is a sealed line, and says which text it was.
-use Rattle.std.proofs.Common.{◌≡◌, ℕ, zero, suc, ◌+◌, ◌^◌, ◌<◌, ◌≤◌, Bool, true, leb, List, [], ◌∷◌, length, sym, refl, ap, ◌∙◌, arith, lit<}
-use lib.Bits.{bit_xor, xor_lt}
-use Rattle.std.specs.List.{flat_map, AllByRecursion as All}
+use Rattle.std.proofs.Common.{◌≡◌, ℕ, zero, suc, ◌<◌, ◌≤◌, true, List, [], ◌∷◌, length, refl, ap, ◌∙◌}
+use lib.Bits.{xor_lt}
+use Rattle.std.specs.List.{AllByRecursion as All}
 use Rattle.std.proofs.lemmas.Bool.{le-leb}
 use Rattle.hash.specs.declared.Strength.{Strength}
 use Rattle.hash.specs.declared.Strength.TheVariants.{Lo, Mid, Hi}
@@ -13,7 +13,7 @@ use Rattle.hs1.specs.Seal.{siv, under, ciphertext}
 use Rattle.hs1.proofs.Laws.{one_text}
 use Rattle.sealed.specs.Hex.{Byte}
 use Rattle.sealed.specs.Limits.{siv_length, text_length}
-use Rattle.sealed.specs.Line.{Parts, LawfulHeader, Lawful, OneReading, header_of, sealed_line}
+use Rattle.sealed.specs.Line.{Parts, LawfulHeader, Lawful, OneReading, header_of}
 use Rattle.sheet.specs.Sheet.{nonce_of, sealed_parts, sheet_line}
 
 run_bytes : (g : ℕ → ℕ) → ((p : ℕ) → g p < 256) → (p n : ℕ) → All Byte (run g p n)

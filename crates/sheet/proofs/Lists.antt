@@ -8,7 +8,6 @@ use Rattle.kinds.proofs.Sheets.{same_text}
 use Rattle.sealed.specs.Line.{LawfulHeader}
 use Rattle.sealed.proofs.Pieces.{one_reading}
 use Rattle.book.specs.Book.{slot_count, serial_end}
-use Rattle.book.specs.Law.{Seals}
 use Rattle.sheet.specs.Sheet.{sheet_line}
 use Rattle.sheet.specs.Sealing.{OneList}
 use Rattle.sheet.proofs.Shapes.{text_bytes}

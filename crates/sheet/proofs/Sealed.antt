@@ -1,5 +1,5 @@
 -- Sealing a text where all lengths are right.
-use Rattle.std.proofs.Common.{◌≡◌, ℕ, ◌-◌, ◌<◌, ◌≤◌, Bool, true, false, cond, not, ◌||◌, eqb, ltb, List, [], ◌++◌, length, take, drop, replicate, Some, None, Ok, Err, Option, Result, sym, refl, ap, ◌∙◌, subst, arith}
+use Rattle.std.proofs.Common.{◌≡◌, ℕ, ◌-◌, ◌<◌, ◌≤◌, Bool, true, false, cond, not, ◌||◌, eqb, ltb, List, ◌++◌, length, take, drop, replicate, Some, None, Ok, Err, Option, Result, sym, refl, ap, ◌∙◌, subst, arith}
 use Rattle.std.proofs.lemmas.List.{drop_all, append-nil, take_at}
 use Rattle.std.proofs.lemmas.Bool.{true≢false, le-ltb, le-leb, eq-eqb, ne_eqb}
 use Rattle.refusal.specs.declared.Refusal.{Refusal}
@@ -11,7 +11,7 @@ use Rattle.hs1.specs.Checks.{refuse_if, or_else, input_checks, put}
 use Rattle.hs1.specs.Calls as hs1
 use Rattle.hs1.specs.Seal.{siv, ciphertext}
 use Rattle.sealed.specs.Limits.{siv_length, text_length}
-use Rattle.sealed.specs.Line.{Parts, LawfulHeader, header_of, sealed_line, parts_in}
+use Rattle.sealed.specs.Line.{LawfulHeader, header_of, sealed_line, parts_in}
 use Rattle.sealed.specs.Writes.{Writes, WritesLine, header_refusal, length_refusal, room_refusal}
 use Rattle.sealed.proofs.Lengths.{longest_header_is}
 use Rattle.sheet.specs.Sheet.{nonce_of, sealed_parts, sheet_line}

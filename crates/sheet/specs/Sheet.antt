@@ -1,5 +1,5 @@
 -- What a text seals to.
-use Rattle.std.specs.Prelude.{◌≡◌, ℕ, ◌<◌, ◌≤◌, List}
+use Rattle.std.specs.Prelude.{ℕ, List}
 use Rattle.hash.specs.declared.Strength.{Strength}
 use Rattle.hash.specs.Bytes.{str}
 use Rattle.stream.specs.Stream.{StreamOf}

@@ -1,5 +1,5 @@
 -- Four elements of a list at once.
-use Rattle.std.proofs.Common.{◌≡◌, ℕ, ◌+◌, ◌-◌, ◌≤◌, List, [], ◌∷◌, ◌++◌, length, get_or, drop, set, sym, refl, ap, ◌∙◌, arith}
+use Rattle.std.proofs.Common.{◌≡◌, ℕ, ◌+◌, ◌-◌, ◌≤◌, List, [], ◌∷◌, ◌++◌, length, get_or, drop, set, ap, ◌∙◌, arith}
 use Rattle.std.proofs.lemmas.List.{drop_more, set-append_right}
 
 -- four elements and the rest

@@ -1,5 +1,5 @@
 -- What a suite is: a number, a name, a stream and a strength.
-use Rattle.std.specs.Prelude.{◌≡◌, ℕ, cond, List, Some, None, codes, Option, ◌==◌}
+use Rattle.std.specs.Prelude.{ℕ, cond, List, Some, None, codes, Option, ◌==◌}
 use Rattle.std.specs.Str.{bytes_eq}
 use Rattle.hash.specs.declared.Strength.{Strength}
 use Rattle.hash.specs.declared.Strength.TheVariants.{Lo, Mid, Hi}

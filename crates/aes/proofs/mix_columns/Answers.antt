@@ -1,4 +1,4 @@
-use Rattle.std.proofs.Common.{◌+◌, ◌/◌, ◌%◌, refl, arith, rules}
+use Rattle.std.proofs.Common.{◌/◌, ◌%◌, arith, rules}
 use Rattle.std.proofs.lemmas.List.FromFn.{fill_by_all}
 use Rattle.aes.specs.Aes.{mixed_byte, mix_columns}
 use Rattle.aes.proofs.Lists.{fill_more}

@@ -1,4 +1,4 @@
-use Rattle.std.proofs.Common.{◌≡◌, ℕ, ◌-◌, ◌≤◌, List, length, take, sym, ap, subst, arith}
+use Rattle.std.proofs.Common.{◌≡◌, ℕ, ◌-◌, ◌≤◌, List, length, take, sym, subst, arith}
 use Rattle.kinds.specs.Text.{text_of}
 use Rattle.book.specs.Law.{Seals}
 use Rattle.sheet.specs.Sheet.{sheet_line}

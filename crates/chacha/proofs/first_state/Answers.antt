@@ -1,4 +1,4 @@
-use Rattle.std.proofs.Common.{◌≡◌, ℕ, ◌≤◌, List, [], ◌∷◌, ◌++◌, length, drop, sym, refl, ap, ◌∙◌, arith, rules}
+use Rattle.std.proofs.Common.{◌≡◌, ℕ, List, [], ◌∷◌, length, refl, arith, rules}
 use Rattle.chacha.specs.ChaCha.{start, words, word_at}
 use Rattle.chacha.specs.Words.{words_from, words_end}
 use Rattle.chacha.proofs.first_state.Goals as goal

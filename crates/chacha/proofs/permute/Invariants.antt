@@ -1,4 +1,4 @@
-use Rattle.std.proofs.Common.{◌≡◌, length}
+use Rattle.std.proofs.Common.{◌≡◌}
 use Rattle.chacha.specs.ChaCha.{double_rounds}
 use Rattle.chacha.proofs.permute.Given as goal
 

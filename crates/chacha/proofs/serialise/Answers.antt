@@ -1,7 +1,7 @@
-use Rattle.std.proofs.Common.{◌≡◌, ◌*◌, ◌<◌, ◌++◌, length, get_or, take, drop, replicate, refl, ap, ◌∙◌, append-nil, arith, rules}
+use Rattle.std.proofs.Common.{◌*◌, ◌<◌, ◌++◌, length, drop, replicate, refl, ap, ◌∙◌, append-nil, arith, rules}
 use Rattle.std.proofs.lemmas.List.{take_all, drop_all}
 use Rattle.chacha.specs.ChaCha.{serialised}
-use Rattle.chacha.specs.Words.{write_more, bytes}
+use Rattle.chacha.specs.Words.{write_more}
 use Rattle.chacha.proofs.serialise.Goals as goal
 
 pub loop-j-preserved : goal.loop-j-preserved

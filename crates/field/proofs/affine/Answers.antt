@@ -1,4 +1,3 @@
-use mathlib.Core.Path.{◌≡◌}
 use Rattle.field.proofs.Products.{affine_rotated}
 use Rattle.field.proofs.affine.Goals as goal
 

@@ -1,5 +1,4 @@
 use mathlib.Core.Path.{◌≡◌, sym, subst}
-use Prim.Native.Nat.{ℕ}
 use Rattle.field.specs.Field.{inverse, Inverse}
 use Rattle.field.proofs.Products.{inverts}
 use Rattle.field.proofs.inverse.Goals as goal

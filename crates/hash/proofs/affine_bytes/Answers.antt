@@ -1,4 +1,4 @@
-use Rattle.std.proofs.Common.{◌≡◌, ◌+◌, ◌*◌, ◌/◌, ◌%◌, ◌^◌, get_or, ap, ◌∙◌}
+use Rattle.std.proofs.Common.{◌+◌, ◌*◌, ◌/◌, ◌%◌, ◌^◌, get_or, ap, ◌∙◌}
 use Rattle.hash.specs.Bytes.{str}
 use Rattle.hash.specs.Hash.{affine}
 use Rattle.hash.proofs.Ints.{str_four, str_wrapped}

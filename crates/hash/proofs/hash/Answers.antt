@@ -1,4 +1,4 @@
-use Rattle.std.proofs.Common.{◌≡◌, ◌≤◌, [], refl, arith}
+use Rattle.std.proofs.Common.{◌≤◌, [], refl, arith}
 use Rattle.hash.proofs.Whole.{hashed_from, hashes_le}
 use Rattle.hash.proofs.hash.Goals as goal
 

@@ -1,4 +1,4 @@
-use Rattle.std.proofs.Common.{◌≡◌, ◌≤◌, [], refl, ◌∙◌, arith}
+use Rattle.std.proofs.Common.{◌≤◌, [], ◌∙◌, arith}
 use Rattle.hash.proofs.Ints.{str_eight}
 use Rattle.hash.proofs.Whole.{hashed_from, hashes_le, message_is}
 use Rattle.hash.proofs.hash_message.Goals as goal

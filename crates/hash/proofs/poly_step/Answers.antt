@@ -1,4 +1,4 @@
-use Rattle.std.proofs.Common.{◌≡◌, ◌+◌, ◌*◌, ◌/◌, ◌%◌, ◌^◌, sym, ap, ◌∙◌, add_comm, arith}
+use Rattle.std.proofs.Common.{◌≡◌, ◌*◌, ◌/◌, ◌%◌, ◌^◌, ap, ◌∙◌, add_comm, arith}
 use Rattle.hash.specs.Hash.{turn, prime}
 use Rattle.hash.proofs.Poly.{step, folded, product_le, digits_more, ended}
 use Rattle.hash.proofs.poly_step.Goals as goal

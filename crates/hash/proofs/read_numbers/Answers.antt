@@ -1,4 +1,4 @@
-use Rattle.std.proofs.Common.{◌≡◌, ◌+◌, ◌*◌, arith}
+use Rattle.std.proofs.Common.{◌*◌, arith}
 use Rattle.hash.proofs.Ints.{number_eight, ints_more, ints_all}
 use Rattle.hash.proofs.read_numbers.Goals as goal
 

@@ -1,4 +1,4 @@
-use Rattle.std.proofs.Common.{◌≡◌, ℕ, ◌+◌, ◌%◌, ◌^◌, ◌<◌, ◌≤◌, length, get_or}
+use Rattle.std.proofs.Common.{◌≡◌, ℕ, ◌+◌, ◌%◌, ◌^◌, ◌≤◌, length, get_or}
 use Rattle.hash.specs.Nh.{nh}
 use Rattle.hash.specs.Hasher.{nh_part, Turns}
 use Rattle.hash.proofs.turn_all.Given as goal

@@ -1,4 +1,4 @@
-use Rattle.std.proofs.Common.{◌≡◌, length, Ok, Err, sym, ap, ◌∙◌, arith}
+use Rattle.std.proofs.Common.{length, Err, sym, ap, ◌∙◌, arith}
 use Rattle.std.proofs.lemmas.Result.{err_from_is_err_and}
 use Rattle.hs1.proofs.Checked.{some_from_err, refused_opens, or_first, passed_siv, granted_opens, whole_put}
 use Rattle.hs1.proofs.Sealing.{length_cleared}

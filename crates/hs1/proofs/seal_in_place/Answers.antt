@@ -1,4 +1,4 @@
-use Rattle.std.proofs.Common.{◌≡◌, length, take, Ok, Err, sym, ap, ◌∙◌}
+use Rattle.std.proofs.Common.{take, Err, sym, ap, ◌∙◌}
 use native.Mathlib.Nat.{sub-zero}
 use Rattle.std.proofs.lemmas.Result.{err_from_is_err_and}
 use Rattle.hs1.specs.Seal.{siv}

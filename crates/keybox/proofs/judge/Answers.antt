@@ -1,9 +1,8 @@
-use Rattle.std.proofs.Common.{◌≡◌, ℕ, ◌<◌, ◌≤◌, List, length, Ok, Err, sym, refl, ap, ◌∙◌, subst, arith, rules}
+use Rattle.std.proofs.Common.{◌≡◌, length, Err, sym, refl, ap, ◌∙◌, arith}
 use Rattle.hash.specs.Strength.{siv_length}
 use Rattle.sealed.specs.Sheet.{parts_of}
 use Rattle.std.proofs.lemmas.Result.{err_from_is_err_and}
 use Rattle.refusal.specs.declared.Refusal.TheVariants.{ShortWork}
-use Rattle.keybox.specs.Opening.{sheet_text}
 use Rattle.keybox.proofs.Judged.{empty_slot, stale, other_length, short_work, wrong, filled, not_opened, is_opened, siv_there, text_there, text_is, header_few, text_few}
 use Rattle.keybox.proofs.judge.Goals as goal
 

@@ -1,4 +1,4 @@
-use Rattle.std.proofs.Common.{◌≡◌, ℕ, List, length, ap, ◌∙◌, subst, rules}
+use Rattle.std.proofs.Common.{◌≡◌, ℕ, List, length, subst, rules}
 use Rattle.hs1.specs.Calls.{OpenedThere}
 use Rattle.hs1.specs.Seal.{opened}
 use Rattle.sheet.specs.Sheet.{nonce_of}

@@ -1,6 +1,5 @@
-use Rattle.std.proofs.Common.{◌≡◌, ◌+◌, ◌<◌, Bool, true, false, ◌&&◌, length, get_or, drop, pos, sym, refl, ap, ◌∙◌, arith, w32, SFits, rules}
+use Rattle.std.proofs.Common.{◌≡◌, ◌+◌, ◌<◌, true, false, ◌&&◌, length, get_or, drop, pos, sym, ap, ◌∙◌, arith, w32, SFits, rules}
 use Rattle.std.proofs.lemmas.Int.{to_z-of_z}
-use Rattle.patterns.specs.declared.Range.{Range}
 use Rattle.patterns.specs.Pattern.{within, in_ranges}
 use Rattle.patterns.proofs.Spell.{other_count, in_ranges_next, in_ranges_end}
 use Rattle.patterns.proofs.all_within.Goals as goal

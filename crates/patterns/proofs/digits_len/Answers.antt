@@ -1,4 +1,4 @@
-use Rattle.std.proofs.Common.{◌≡◌, length, get_or, pos, sym, ap, ◌∙◌, subst}
+use Rattle.std.proofs.Common.{length, get_or, pos, sym, ap, ◌∙◌, subst}
 use Rattle.std.proofs.ByRecursion.{All-get_or}
 use Rattle.shape.specs.Decimal.{InRange, MeasuresNumber}
 use Rattle.shape.proofs.Signs.{in_range_kept}

@@ -1,9 +1,8 @@
-use Rattle.std.proofs.Common.{◌≡◌, ◌+◌, ◌-◌, ◌<◌, ◌≤◌, true, false, length, get_or, drop, set, Some, None, MatchBool, sym, refl, ap, ◌∙◌, subst, arith, rules}
+use Rattle.std.proofs.Common.{◌≡◌, length, drop, set, Some, None, sym, ap, ◌∙◌, subst, arith}
 use Rattle.std.proofs.lemmas.List.{take_rest, length-drop, length-set}
 use Rattle.shape.proofs.Signs.{in_range_kept}
-use Rattle.patterns.specs.Pattern.{Makes, ReadsPattern}
 use Rattle.patterns.specs.Steps.{NextValue}
-use Rattle.patterns.proofs.Found.{Found, found_missing, found_number, found_other, found_byte, found_none, found_whole, found_part}
+use Rattle.patterns.proofs.Found.{found_missing, found_number, found_other, found_byte, found_none, found_whole, found_part}
 use Rattle.patterns.proofs.find_values.Goals as goal
 use Rattle.patterns.proofs.find_values.Goals.{then-at-line-via-then-at-line, then-at-line-via-else-at-line+then-line-at, then-b-eq35+in-Some, else-b-eq35+else-at-line+else-line-at}
 

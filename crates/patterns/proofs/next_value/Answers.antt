@@ -1,7 +1,6 @@
-use Rattle.std.proofs.Common.{◌≡◌, true, false, List, ◌∷◌, length, get_or, drop, sym, refl, ap, ◌∙◌, arith, w32, to_z, of_z}
-use Rattle.std.proofs.lemmas.List.{length-drop, drop_more}
+use Rattle.std.proofs.Common.{length, drop, sym, ap, ◌∙◌, arith}
+use Rattle.std.proofs.lemmas.List.{length-drop}
 use Rattle.shape.proofs.Signs.{in_range_kept}
-use Rattle.patterns.specs.declared.Range.{Range}
 use Rattle.patterns.specs.Pattern.{within}
 use Rattle.patterns.proofs.Found.{next_none, next_other, next_some, first_range}
 use Rattle.patterns.proofs.next_value.Goals as goal

@@ -1,7 +1,7 @@
 use Rattle.std.proofs.Common.{◌≡◌, ◌+◌, ◌-◌, ◌≤◌, length, take, drop, refl, ap, ◌∙◌, subst, arith, rules}
 use Rattle.std.proofs.lemmas.List.{take_rest, length-drop}
 use Rattle.kinds.proofs.Overwrite.{Over, over_part, over_byte, over_all}
-use Rattle.patterns.specs.Pattern.{spelt, first_digits}
+use Rattle.patterns.specs.Pattern.{spelt}
 use Rattle.patterns.proofs.Spell.{no_more, number_comes, byte_comes, number_room, byte_room}
 use Rattle.patterns.proofs.put_line.Goals as goal
 use Rattle.patterns.proofs.put_line.Goals.{then-b-eq35, else-b-eq35}

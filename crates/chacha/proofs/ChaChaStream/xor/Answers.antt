@@ -1,4 +1,4 @@
-use Rattle.std.proofs.Common.{◌≡◌, ℕ, ◌/◌, ◌%◌, List, get_or, set, sym, ap, ◌∙◌, subst}
+use Rattle.std.proofs.Common.{◌≡◌, ℕ, ◌/◌, ◌%◌, List, get_or, set, ap, ◌∙◌, subst}
 use mathlib.Core.Path.{fun_ext}
 use Rattle.stream.specs.Stream.{Xored}
 use Rattle.chacha.specs.ChaCha.{serialised, mixed, start, block, byte_at}

@@ -1,4 +1,4 @@
-use Rattle.std.proofs.Common.{◌≡◌, ◌+◌, ◌*◌, ◌≤◌, length, ap, arith, rules}
+use Rattle.std.proofs.Common.{◌≡◌, ◌+◌, ◌*◌, length, ap, arith, rules}
 use Rattle.hash.specs.Strength.{hashes, nh_words}
 use Rattle.hash.specs.Hash.{below60}
 use Rattle.hash.proofs.Ints.{read_front}

@@ -1,4 +1,4 @@
-use Rattle.std.proofs.Common.{◌≡◌, refl, arith, rules}
+use Rattle.std.proofs.Common.{refl, arith, rules}
 use Rattle.hash.proofs.Blocks.{full_turned}
 use Rattle.hash.proofs.Hasher.flush.Goals as goal
 

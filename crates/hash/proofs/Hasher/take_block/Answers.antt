@@ -1,4 +1,4 @@
-use Rattle.std.proofs.Common.{◌≡◌, refl, arith, rules}
+use Rattle.std.proofs.Common.{arith}
 use Rattle.hash.proofs.Blocks.{block_turned}
 use Rattle.hash.proofs.Hasher.take_block.Goals as goal
 

@@ -1,4 +1,4 @@
-use Rattle.std.proofs.Common.{◌≡◌, arith, rules}
+use Rattle.std.proofs.Common.{arith}
 use Rattle.hash.proofs.Blocks.{pass_block, pass_some}
 use Rattle.hash.proofs.Hasher.take_next.Goals as goal
 

@@ -1,4 +1,4 @@
-use Rattle.std.proofs.Common.{◌≡◌, [], ◌∷◌, codes, sym, refl, ap, ◌∙◌, arith}
+use Rattle.std.proofs.Common.{[], ◌∷◌, codes, sym, refl, ap, ◌∙◌, arith}
 use Rattle.patterns.specs.Pattern.{in_ranges, spelt}
 use Rattle.items.specs.Job.{coordinates}
 use Rattle.items.specs.ValuesLemmas.{four_values, same_four, range_count, kept_at}

@@ -1,4 +1,4 @@
-use Rattle.std.proofs.Common.{◌≡◌, [], ◌∷◌, get_or, pos, codes, sym, refl, ap, ◌∙◌, ap₂, arith}
+use Rattle.std.proofs.Common.{[], ◌∷◌, get_or, pos, codes, sym, refl, ap, ◌∙◌, ap₂, arith}
 use Rattle.patterns.specs.Pattern.{in_ranges, spelt}
 use Rattle.items.specs.Job.{panel_numbers, cloth_numbers}
 use Rattle.items.specs.ValuesLemmas.{two_values, range_count, within_at, cast_fits, cast_value}

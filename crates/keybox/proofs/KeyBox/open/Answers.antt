@@ -1,4 +1,4 @@
-use Rattle.std.proofs.Common.{◌≡◌, ℕ, cond, List, length, get_or, replicate, Ok, Err, sym, refl, ap, ◌∙◌, subst, arith, rules}
+use Rattle.std.proofs.Common.{◌≡◌, ℕ, cond, List, length, get_or, replicate, Ok, Err, refl, ap, ◌∙◌, subst}
 use Rattle.sealed.specs.Sheet.{parts_of}
 use Rattle.book.specs.declared.Slot.{Slot}
 use Rattle.book.specs.Keys.{empty}

@@ -1,4 +1,4 @@
-use Rattle.std.proofs.Common.{◌≡◌, ℕ, Bool, cond, ◌&&◌, List, length, get_or, replicate, Err, sym, refl, ap, ◌∙◌, subst, inl, inr, rules}
+use Rattle.std.proofs.Common.{◌≡◌, ℕ, Bool, cond, ◌&&◌, List, length, get_or, Err, sym, refl, ap, ◌∙◌, inl, inr, rules}
 use Rattle.sealed.specs.Line.{Parts, Lawful, sealed_line}
 use Rattle.sealed.specs.Sheet.{parts_of}
 use Rattle.sealed.proofs.Pieces.{one_reading}

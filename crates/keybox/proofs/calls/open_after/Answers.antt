@@ -1,4 +1,4 @@
-use Rattle.std.proofs.Common.{◌≡◌, List, [], length, sym, ap, ◌∙◌, subst, append-nil}
+use Rattle.std.proofs.Common.{[], length, sym, ◌∙◌, subst, append-nil}
 use Rattle.refusal.specs.declared.Refusal.{Refusal}
 use Rattle.hash.specs.declared.Strength.{Strength}
 use Rattle.stream.specs.Stream.{StreamOf}

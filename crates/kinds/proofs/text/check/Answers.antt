@@ -1,5 +1,5 @@
-use Rattle.std.proofs.Common.{◌≡◌, true, is_some, sym, refl, ap, ◌∙◌, arith}
-use Rattle.kinds.specs.Text.{OneAnswer, ReadsItsText}
+use Rattle.std.proofs.Common.{is_some, sym, refl, ap, arith}
+use Rattle.kinds.specs.Text.{ReadsItsText}
 use Rattle.kinds.proofs.Sheets.{one_answer, reads_its_text, none_bad}
 use Rattle.kinds.proofs.Along.{along_none, along_many, along_all, along_fault, along_next}
 use Rattle.kinds.proofs.text.check.Given as given

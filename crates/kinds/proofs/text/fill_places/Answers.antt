@@ -1,4 +1,4 @@
-use Rattle.std.proofs.Common.{◌≡◌, ◌<◌, true, length, is_some, sym, refl, ap, ◌∙◌, arith, rules}
+use Rattle.std.proofs.Common.{◌≡◌, ◌<◌, length, is_some, sym, ap, arith, rules}
 use Rattle.kinds.specs.Limits.{most_items}
 use Rattle.kinds.proofs.Sheets.{none_bad, items_length}
 use Rattle.kinds.proofs.Along.{along_none, along_next, along_read, more, filled_none, filled_next, filled_all}

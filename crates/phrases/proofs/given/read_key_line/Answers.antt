@@ -1,4 +1,4 @@
-use Rattle.std.proofs.Common.{◌≡◌, ◌+◌, ◌-◌, true, sym, ap, ◌∙◌, subst, arith, lit≤}
+use Rattle.std.proofs.Common.{◌≡◌, true, sym, ap, ◌∙◌, subst, arith, lit≤}
 use Rattle.sealed.specs.Hex.{Byte, hex_of}
 use Rattle.book.specs.Book.{good_key}
 use Rattle.std.specs.List.{AllByRecursion as All}

@@ -1,4 +1,4 @@
-use Rattle.std.proofs.Common.{◌≡◌, ◌+◌, ◌*◌, ◌/◌, ◌<◌, ◌++◌, length, get_or, take, drop, set, sym, refl, ap, ◌∙◌, ap₂, arith}
+use Rattle.std.proofs.Common.{◌≡◌, ◌+◌, ◌*◌, get_or, set, sym, ap, ◌∙◌, ap₂, arith}
 use Rattle.sealed.specs.Hex.{bytes_of}
 use Rattle.sealed.proofs.Hexes.{value_small}
 use Rattle.sealed.proofs.Overs.{length_bytes, bytes_at, front_more, front_all}

@@ -1,4 +1,4 @@
-use Rattle.std.proofs.Common.{◌<◌, length, arith}
+use Rattle.std.proofs.Common.{arith}
 use Rattle.sealed.specs.Hex.{hex_of}
 use Rattle.sealed.proofs.Hexes.{length_hex}
 use Rattle.sealed.proofs.Overs.{writes_short, writes_all}

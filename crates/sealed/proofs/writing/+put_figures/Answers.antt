@@ -1,6 +1,6 @@
-use Rattle.std.proofs.Common.{◌≡◌, ◌+◌, ◌/◌, ◌%◌, [], ◌∷◌, ◌++◌, length, set, sym, ap, ◌∙◌, arith}
+use Rattle.std.proofs.Common.{◌+◌, ◌/◌, ◌%◌, [], set, sym, ap, ◌∙◌, arith}
 use Rattle.shape.specs.Decimal.{figures}
-use Rattle.shape.proofs.Figures.{figures_one, figures_more, length_one, length_more, length_figures}
+use Rattle.shape.proofs.Figures.{figures_one, figures_more, length_one, length_more}
 use Rattle.sealed.specs.Writes.{over}
 use Rattle.sealed.proofs.Overs.{over_none, over_push}
 use Rattle.sealed.proofs.writing.+put_figures.Goals as goal

@@ -1,4 +1,4 @@
-use Rattle.std.proofs.Common.{◌≡◌, ℕ, ◌+◌, ◌≤◌, List, [], ◌∷◌, ◌++◌, length, codes, sym, refl, ap, ◌∙◌, append_assoc, arith, length-append}
+use Rattle.std.proofs.Common.{◌≡◌, ◌+◌, ◌++◌, length, codes, ap, ◌∙◌, append_assoc, arith, length-append}
 use Rattle.shape.specs.Decimal.{figures}
 use Rattle.sealed.specs.Line.{header_of}
 use Rattle.sealed.specs.Writes.{over}

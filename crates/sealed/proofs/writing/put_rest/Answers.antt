@@ -1,4 +1,4 @@
-use Rattle.std.proofs.Common.{◌≡◌, ℕ, ◌+◌, ◌*◌, ◌≤◌, List, [], ◌∷◌, ◌++◌, length, codes, sym, refl, ap, ◌∙◌, append_assoc, arith, length-append}
+use Rattle.std.proofs.Common.{◌≡◌, ◌+◌, ◌++◌, length, codes, ap, ◌∙◌, append_assoc, arith, length-append}
 use Rattle.sealed.specs.Hex.{hex_of}
 use Rattle.sealed.specs.Line.{rest_of}
 use Rattle.sealed.specs.Writes.{over}

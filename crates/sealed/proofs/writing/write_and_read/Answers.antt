@@ -1,4 +1,4 @@
-use Rattle.std.proofs.Common.{◌-◌, arith}
+use Rattle.std.proofs.Common.{arith}
 use Rattle.sealed.specs.Line.{parts_in}
 use Rattle.sealed.proofs.Backs.{reads_back, all_bytes}
 use Rattle.sealed.proofs.writing.write_and_read.Goals as goal

@@ -1,9 +1,9 @@
-use Rattle.std.proofs.Common.{◌≡◌, ◌+◌, ◌*◌, ◌≤◌, ◌++◌, length, sym, refl, ap, ◌∙◌, arith, length-append}
+use Rattle.std.proofs.Common.{◌≡◌, ◌+◌, ◌≤◌, length, ◌∙◌, arith, length-append}
 use Rattle.sealed.specs.Line.{parts_in, header_of, rest_of, sealed_line}
 use Rattle.sealed.specs.Writes.{over}
-use Rattle.sealed.proofs.Lengths.{length_header, length_rest}
+use Rattle.sealed.proofs.Lengths.{length_rest}
 use Rattle.sealed.proofs.Overs.{put_more}
-use Rattle.sealed.proofs.Refusals.{refuses, refuses_room, writes_it, short_header, line_long, passed}
+use Rattle.sealed.proofs.Refusals.{refuses_room, writes_it, short_header, line_long, passed}
 use Rattle.sealed.proofs.writing.write_line.Goals as goal
 
 pub returns-then-out-len : goal.returns-then-out-len

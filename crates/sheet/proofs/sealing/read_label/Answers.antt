@@ -1,4 +1,4 @@
-use Rattle.std.proofs.Common.{◌≡◌, sym, ap, ◌∙◌}
+use Rattle.std.proofs.Common.{sym, ap, ◌∙◌}
 use Rattle.sealed.specs.Line.{Parts}
 use Rattle.sealed.specs.Sheet.{parts_of}
 use Rattle.sheet.proofs.sealing.read_label.Goals as goal

@@ -1,4 +1,4 @@
-use Rattle.std.proofs.Common.{◌≡◌, ℕ, ◌<◌, length, replicate, Ok, Err, sym, refl, ap, ◌∙◌, subst, arith}
+use Rattle.std.proofs.Common.{◌≡◌, ℕ, ◌<◌, length, replicate, Ok, Err, refl, ap, ◌∙◌, subst, arith}
 use Rattle.kinds.specs.Text.{text_of}
 use Rattle.hash.specs.declared.Strength.{Strength}
 use Rattle.book.specs.Answers.{set_checks}

@@ -1,4 +1,4 @@
-use Rattle.std.proofs.Common.{◌≡◌, ℕ, ◌-◌, List, length, take, None, sym, ap, ◌∙◌, subst, arith}
+use Rattle.std.proofs.Common.{ℕ, ◌-◌, List, length, take, None, subst, arith}
 use Rattle.sealed.specs.Writes.{Writes, room_refusal}
 use Rattle.book.specs.Keys.{bytes_of}
 use Rattle.sheet.specs.Sheet.{sheet_line}

@@ -1,4 +1,4 @@
-use Rattle.std.proofs.Common.{◌≡◌, ℕ, List, length, None, sym, ap, ◌∙◌, subst, arith, rules}
+use Rattle.std.proofs.Common.{◌≡◌, ℕ, List, length, None, subst, rules}
 use Rattle.sealed.specs.Writes.{Writes, room_refusal}
 use Rattle.sheet.specs.Sheet.{sheet_line}
 use Rattle.sheet.proofs.Sealed.{never_refused, header_there, line_written}

@@ -1,4 +1,4 @@
-use Rattle.std.proofs.Common.{◌≡◌, [], ◌∷◌, pos, codes, sym, refl, ◌∙◌, subst, ap₂, w32, to_z, of_z, rules}
+use Rattle.std.proofs.Common.{◌≡◌, [], ◌∷◌, pos, codes, sym, subst, ap₂, w32, to_z, of_z, rules}
 use Rattle.kinds.specs.Kind.{Writes}
 use Rattle.patterns.specs.Pattern.{in_ranges, spelt}
 use Rattle.items.specs.Job.{panel_numbers, cloth_numbers, coordinates, job_lawful, job_line}

@@ -5,7 +5,6 @@ use Rattle.shape.proofs.Columns.{one_column, column_like}
 use Rattle.shape.proofs.Lines.{Line, line_fault, line_other, line_long}
 use Rattle.sealed.specs.Frame.{Whole}
 use Rattle.sealed.specs.Line.{SealedLine}
-use Rattle.sealed.specs.Sheet.{ReadFrom}
 use Rattle.sealed.proofs.Pieces.{whole_apart, line_sealed, sealed_whole, one_reading}
 use Rattle.sealed.proofs.unchecked.Unchecked.read.Goals as goal
 use Rattle.sealed.proofs.unchecked.Unchecked.read.Goals.{then-n-line-via-then-n-line, then-n-line-via-else-n-line+then-line-n-ne10}

@@ -1,8 +1,8 @@
-use Rattle.std.proofs.Common.{◌+◌, drop, codes, refl, arith}
+use Rattle.std.proofs.Common.{drop, codes, arith}
 use Rattle.std.proofs.lemmas.List.{take_rest, length-drop}
 use Rattle.std.proofs.lemmas.Result.{err_from_is_err_and}
 use Rattle.shape.specs.Outcome.{Read, Fault, Is}
-use Rattle.shape.proofs.Carry.{read_fits, fault_fits}
+use Rattle.shape.proofs.Carry.{fault_fits}
 use Rattle.sealed.proofs.Frames.{slot_fault, kind_fault, serial_fault, siv_fault, text_fault, end_fault, whole_read, made_lawful, made_line, made_header}
 use Rattle.sealed.proofs.unchecked.reading.read_frame.Goals as goal
 

@@ -1,4 +1,4 @@
-use Rattle.std.proofs.Common.{◌+◌, ◌-◌, ◌≤◌, length, drop, Ok, Err, arith}
+use Rattle.std.proofs.Common.{◌+◌, drop, Ok, Err, arith}
 use Rattle.std.proofs.lemmas.List.{take_rest}
 use Rattle.shape.specs.Outcome.{Read, Fault, Is}
 use Rattle.sealed.specs.Frame.{Value}
