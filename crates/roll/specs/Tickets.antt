@@ -2,7 +2,7 @@
 use Rattle.std.specs.Prelude.{◌≡◌, ℕ, ◌+◌, ◌≤◌, [], ◌∷◌, Ok, Err, Result}
 use Rattle.refusal.specs.declared.Refusal.{Refusal}
 use Rattle.refusal.specs.declared.Refusal.TheVariants.{RollUsedUp}
-use Rattle.roll.specs.declared.ticket.Ticket.{Ticket}
+use Rattle.roll.specs.declared.Ticket.{Ticket}
 use Rattle.roll.specs.Draws.{last_serial, Run}
 
 -- a drawn ticket by its serial

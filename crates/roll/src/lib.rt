@@ -6,14 +6,10 @@
 
 #![tactic(auto)]
 
-mod ticket;
-
 ghost use Rattle.std.specs.Prelude.{◌≡◌, ℕ, ◌+◌, ◌<◌, ◌≤◌};
 ghost use Rattle.roll.specs.Draws.{Drawn, NeverRepeats};
-ghost use Rattle.roll.specs.Tickets.{serial_of, PairDrawn};
 
 use refusal::Refusal;
-pub use ticket::Ticket;
 
 // The serials of one sender, by the last that was used.
 #[derive(Drop)]
@@ -21,7 +17,16 @@ pub struct Roll {
     last: u32,
 }
 
+// Leave to seal one sheet: its serial, which is never 0. It is neither Copy nor
+// Clone nor Drop: whoever holds one spends it or hands it on. Only a roll makes one.
+pub struct Ticket {
+    serial: u32,
+    ghost numbered: { 0 < serial },
+}
+
 impl Roll {
+    ghost use Rattle.roll.specs.Tickets.{serial_of, PairDrawn};
+
     // A roll whose next serial is one above `last`; 0 for a roll that has given none.
     pub fn new(last: u32) -> Roll
         ensures { result.last ≡ last }
