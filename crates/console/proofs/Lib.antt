@@ -1,2 +1,3 @@
 mod Named
 mod Sheets
+mod Opens

@@ -1,5 +1,5 @@
 -- The kind that a line names.
-use Rattle.std.proofs.Common.{◌≡◌, ℕ, Bool, true, eqb, List, Decides, sym, ap, ◌∙◌}
+use Rattle.std.proofs.Common.{◌≡◌, ℕ, eqb, List, Decides, sym, ap, ◌∙◌}
 use Rattle.std.proofs.lemmas.Bool.{eq-eqb, eqb-true}
 use Rattle.sealed.specs.Line.{Parts, Lawful, sealed_line}
 use Rattle.sealed.proofs.Pieces.{one_reading}

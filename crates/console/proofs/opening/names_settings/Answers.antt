@@ -1,4 +1,3 @@
-use Rattle.std.proofs.Common.{sym}
 use Rattle.sealed.specs.Sheet.{parts_of}
 use Rattle.std.proofs.lemmas.Bool.{false≢true}
 use Rattle.console.proofs.Named.{names_decided}

@@ -1,4 +1,4 @@
-use Rattle.std.proofs.Common.{◌≡◌, cond, List, ◌++◌, length, is_ok, vec_items, ap, ◌∙◌, arith}
+use Rattle.std.proofs.Common.{cond, ◌++◌, length, is_ok, vec_items, ap, ◌∙◌}
 use Rattle.kinds.specs.Text.{text_of}
 use Rattle.phrases.specs.Printed.{opened_line}
 use Rattle.console.proofs.Sheets.{never_refused, text_there, two_pushes}
