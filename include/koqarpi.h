@@ -1,6 +1,7 @@
 /* Bare sealing and opening by suite number, for the board's own program.
  *
- * Link with target/staticlib/libsuites.a (made by `rt staticlib suites`).
+ * Link with target/staticlib/libsuites.a (made by examples/run-board, from the
+ * crate suites_c).
  *
  * Both calls check everything that they are handed and answer with a number:
  * 0 where the work is done, else the number of the refusal. They use no heap

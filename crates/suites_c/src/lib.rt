@@ -1,0 +1,40 @@
+//! The static library that a C program links: the calls of `suites` under their
+//! C names. Each slice is a pointer and a length there; include/koqarpi.h
+//! declares them and says what they need.
+
+#![tactic(auto)]
+
+ghost use Rattle.suites.specs.Suites.{suite as suiteOf};
+ghost use Rattle.suites.specs.Calls.{SealsBy, OpensBy, Coded};
+
+// Seals a text by the suite of that number.
+#[unsafe(no_mangle)]
+pub extern "C" fn koqarpi_seal(
+    suite: u32,
+    key: &[u8],
+    nonce: &[u8],
+    header: &[u8],
+    text: &[u8],
+    siv_out: &mut [u8],
+    out: &mut [u8],
+) -> u8
+    ensures { Coded (SealsBy (suiteOf suite) key.now nonce.now header.now text.now siv_out.old siv_out.new out.old out.new) result }
+{
+    suites::koqarpi_seal(suite, key, nonce, header, text, siv_out, out)
+}
+
+// Opens a ciphertext by the suite of that number.
+#[unsafe(no_mangle)]
+pub extern "C" fn koqarpi_open(
+    suite: u32,
+    key: &[u8],
+    nonce: &[u8],
+    header: &[u8],
+    siv: &[u8],
+    ciphertext: &[u8],
+    out: &mut [u8],
+) -> u8
+    ensures { Coded (OpensBy (suiteOf suite) key.now nonce.now header.now siv.now ciphertext.now out.old out.new) result }
+{
+    suites::koqarpi_open(suite, key, nonce, header, siv, ciphertext, out)
+}
