@@ -8,6 +8,9 @@ define are turned, wherever they stand in .antt files, in ghost text of .rt file
 and between backquotes in comments and pages. Names that Rattle makes, as the goals' names and the
 steps of a proof, stay, and so do functions of src/, strings, inputs and outputs.
 
+`All` by recursion has the library's name for it, AllByRecursion: no import may stand under the
+name of another word of the library.
+
 Crate `hash` defined a word `result`, which now names what a function returns: it is `result_of`
 here, and the clauses of that crate lose their λ.
 """
@@ -123,6 +126,14 @@ def clause(m):
     return "ensures%s { %s }" % (label, fact)
 
 
+def all_by_recursion(text):
+    """In a file that takes the library's AllByRecursion under the name All: it goes by its own name."""
+    if "AllByRecursion as All" not in text:
+        return text
+    text = text.replace("AllByRecursion as All", "AllByRecursion")
+    return re.sub(r"(?<![\w'.-])All(?![\w'-])", "AllByRecursion", text)
+
+
 def main():
     if len(sys.argv) > 1:
         os.chdir(sys.argv[1])
@@ -141,6 +152,8 @@ def main():
         write(path, by_line(text, {a: b for a, b in table.items() if a not in kept}, "--", turned))
     for path in sorted(glob.glob("crates/*/src/**/*.rt", recursive=True)):
         write(path, by_line(read(path), table, "//", outside_strings))
+    for path in antt() + sorted(glob.glob("crates/*/src/**/*.rt", recursive=True)):
+        write(path, all_by_recursion(read(path)))
     for path in sorted(glob.glob("crates/*/must-fail/*.edit") + glob.glob("misuse/*/*.edit")):
         write(path, outside_strings(read(path), table))
     for path in ["README.md"] + sorted(glob.glob("docs/*.md")):

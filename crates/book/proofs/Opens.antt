@@ -1,7 +1,7 @@
 -- An opening: what the box asks of a slot is what the book asks, so that box
 -- and book go on together.
 use Rattle.std.proofs.Common.{◌≡◌, ℕ, ◌<◌, ◌≤◌, Bool, true, cond, ◌&&◌, eqb, ltb, ◌⊎◌, List, [], ◌∷◌, ◌++◌, map, length, get_or, drop, is_some, Some, None, Ok, Err, Option, sym, refl, ap, ◌∙◌, subst, inl, inr, ⊎_elim, arith}
-use Rattle.std.specs.List.{flat_map, AllByRecursion as All}
+use Rattle.std.specs.List.{flat_map, AllByRecursion}
 use Rattle.std.proofs.lemmas.List.{length-map}
 use Rattle.std.proofs.lemmas.Bool.{false≢true, both_ways, and_parts, and_from, eqb-true, eq-eqb, ltb-true, lt-ltb, cond_both}
 use Rattle.book.specs.declared.Slot.{Slot}
@@ -43,10 +43,10 @@ module _ {X : Type 0} (lawful : X → Bool) (line : X → List ℕ) (number : �
     (reads : (x : X) → lawful x ≡ true → reading (line x) ≡ Some x)
     (sound : (l : List ℕ) (x : X) → reading l ≡ Some x → (lawful x ≡ true) × (line x ≡ l)) where
   abbrev Lawful : List X → Type 0
-  Lawful xs = All (λ x. lawful x ≡ true) xs
+  Lawful xs = AllByRecursion (λ x. lawful x ≡ true) xs
 
   abbrev Has : List (List ℕ) → Type 0
-  Has ls = All (λ l. (kind_of number reading).has l ≡ true) ls
+  Has ls = AllByRecursion (λ l. (kind_of number reading).has l ≡ true) ls
 
   -- the lines of lawful items are lines of the kind
   has_lines : (xs : List X) → Lawful xs → Has (map line xs)

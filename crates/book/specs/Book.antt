@@ -1,7 +1,7 @@
 -- The book: what a list of calls, newest first, has left behind. It speaks of
 -- no box; it knows the calls by their arguments alone.
 use Rattle.std.specs.Prelude.{◌≡◌, ℕ, ◌+◌, ◌<◌, ◌≤◌, Bool, true, false, cond, ◌&&◌, ◌⊎◌, List, [], ◌∷◌, length, is_some, Some, None, Option, ◌==◌, nat_lt}
-use Rattle.std.specs.List.{flat_map, AllByRecursion as All}
+use Rattle.std.specs.List.{flat_map, AllByRecursion}
 
 -- The limits: slots of a box, bytes of a key, items and bytes of a sheet. The
 -- serials of sheets are those above 0 and below serial-end.
@@ -70,7 +70,7 @@ module _ (seal : Sealing) where
   -- These lines, each of an item of the kind, make a sheet within the limits,
   -- and l is what it seals to.
   pub record SealedLines (q : KindOf) (slot serial : ℕ) (key l : List ℕ) (lines : List (List ℕ)) : Type 0 where
-    pub lawful : All (λ l. q.has l ≡ true) lines
+    pub lawful : AllByRecursion (λ l. q.has l ≡ true) lines
     pub few : length lines ≤ most_items
     pub short : length (text_of lines) ≤ most_bytes
     pub serial_first : 0 < serial

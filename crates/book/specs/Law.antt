@@ -1,6 +1,6 @@
 -- The law of an opening, by the book alone.
 use Rattle.std.specs.Prelude.{◌≡◌, ℕ, ◌<◌, ◌≤◌, Bool, true, List, ◌++◌, length, get_or, drop, is_ok, Some, Ok, Result, slice_index_or}
-use Rattle.std.specs.List.{flat_map, AllByRecursion as All}
+use Rattle.std.specs.List.{flat_map, AllByRecursion}
 use Rattle.book.specs.declared.Slot.{Slot}
 use Rattle.book.specs.Keys.{key_of, empty}
 use Rattle.book.specs.Book.{Call, Sealing, key_in, Fresh, most_items, most_bytes, serial_end}
@@ -11,7 +11,7 @@ module _ {X : Type 0} (seal : Sealing) (lawful : X → Bool) (line : X → List 
   -- The list of items is lawful and within the limits, and seals to the line l
   -- for this slot, with this serial and under this key.
   pub record Seals (slot serial : ℕ) (key l : List ℕ) (items : List X) : Type 0 where
-    pub are_lawful : All (λ x. lawful x ≡ true) items
+    pub are_lawful : AllByRecursion (λ x. lawful x ≡ true) items
     pub few : length items ≤ most_items
     pub short : length (flat_map line items) ≤ most_bytes
     pub serial_first : 0 < serial

@@ -3,7 +3,7 @@ use Rattle.std.specs.Prelude.{◌≡◌, ℕ, zero, suc, ◌+◌, ◌^◌, ◌<�
 use Rattle.std.proofs.Common.{sym, ap, ◌∙◌, inl, inr, arith, to_z, of_z, Fits}
 use Rattle.std.specs.Int.Signed.{non_neg}
 use Rattle.std.specs.Int.{w16, w32}
-use Rattle.std.specs.List.{AllByRecursion as All}
+use Rattle.std.specs.List.{AllByRecursion}
 use Rattle.std.proofs.lemmas.Bool.{and_parts, leb-true, false≢true}
 use Rattle.shape.specs.Decimal.{digits, InRange}
 use Rattle.shape.specs.Form.{Letter, Word}
@@ -65,7 +65,7 @@ lettered (b ∷ w) = (nat_le 97 b && nat_le b 122) && lettered w
 pub word_from : (w : List ℕ) → 0 < length w → length w ≤ most_letters → lettered w ≡ true → Word w
 word_from w some few h = (some, few, all w h)
   where
-    all : (w : List ℕ) → lettered w ≡ true → All Letter w
+    all : (w : List ℕ) → lettered w ≡ true → AllByRecursion Letter w
     all [] h = tt
     all (b ∷ w) h =
         let p = and_parts (nat_le 97 b && nat_le b 122) (lettered w) h in

@@ -1,6 +1,6 @@
 -- The steps of reading a text line by line.
 use Rattle.std.proofs.Common.{◌≡◌, ℕ, ◌+◌, ◌-◌, ◌<◌, ◌≤◌, List, [], ◌∷◌, ◌++◌, length, get_or, take, drop, set, Some, Option, sym, refl, ap, ◌∙◌, subst, ap₂, inl, inr, arith}
-use Rattle.std.specs.List.{AllByRecursion as All}
+use Rattle.std.specs.List.{AllByRecursion}
 use Rattle.std.proofs.ByRecursion.{All-get_or, All-more}
 use Rattle.std.proofs.lemmas.List.{take_all, drop_all, drop-drop, length-drop, get_or-drop, take-append-drop, take_more, take_more_set, drop-set-lt, take_rest, length-take-le}
 use Rattle.kinds.specs.Limits.{most_items}
@@ -25,7 +25,7 @@ module _ {X : Type 0} (reading : List ℕ → Option X) (t : List ℕ) where
   -- the lines before a place, so many, are good
   pub record Along (at count : ℕ) : Type 0 where
     pub rest : lines (drop at t) ≡ drop count (lines t)
-    pub good : All (Good reading) (take count (lines t))
+    pub good : AllByRecursion (Good reading) (take count (lines t))
     pub few : count ≤ most_items
     pub within : count ≤ length (lines t)
 
@@ -46,7 +46,7 @@ module _ {X : Type 0} (reading : List ℕ → Option X) (t : List ℕ) where
     along_all h =
         let e : [] ≡ drop count (lines t) = ap lines (sym (drop_all at t h)) ∙ a.rest in
         let n : count ≡ length (lines t) = omega (arith, ap length e, length-drop count (lines t), a.within) in
-        let g = good_items reading (lines t) (subst (λ ls. All (Good reading) ls) (take_all count (lines t) (omega arith)) a.good) in
+        let g = good_items reading (lines t) (subst (λ ls. AllByRecursion (Good reading) ls) (take_all count (lines t) (omega arith)) a.good) in
         (g.0, record { items = g.1; few = omega (arith, items_length reading (lines t) g.0 g.1, a.few) }, omega (arith, items_length reading (lines t) g.0 g.1))
 
     module _ (l : List ℕ) (next : NextLine t at l) where

@@ -1,6 +1,6 @@
 -- Cutting a text into lines.
 use Rattle.std.proofs.Common.{◌≡◌, ℕ, ◌+◌, ◌-◌, ◌<◌, eqb, List, [], ◌∷◌, ◌++◌, length, get_or, take, drop, sym, refl, ap, ◌∙◌, ⊎_elim, append_assoc, arith}
-use Rattle.std.specs.List.{flat_map, AllByRecursion as All}
+use Rattle.std.specs.List.{flat_map, AllByRecursion}
 use Rattle.std.proofs.ByRecursion.{All-from_get_or, All-append, All-weaker}
 use Rattle.std.proofs.lemmas.List.{take-append-drop, length-take-le, get_or-take, drop_more, take_more, take_all, drop_all}
 use Rattle.std.proofs.lemmas.Bool.{cond-true, cond-false, ne_eqb, cases_Bool}
@@ -15,18 +15,18 @@ Inner b = b ≡ 10 → ⊥
 inner_goes : (b : ℕ) (t : List ℕ) → Inner b → lines (b ∷ t) ≡ onto b (lines t)
 inner_goes b t h = cond-false (eqb b 10) _ _ (ne_eqb b 10 h)
 
-pub lines_whole : (l rest : List ℕ) → All Inner l → lines (l ++ 10 ∷ rest) ≡ (l ++ 10 ∷ []) ∷ lines rest
+pub lines_whole : (l rest : List ℕ) → AllByRecursion Inner l → lines (l ++ 10 ∷ rest) ≡ (l ++ 10 ∷ []) ∷ lines rest
 lines_whole [] rest a = refl
 lines_whole (b ∷ l) rest a = inner_goes b (l ++ 10 ∷ rest) a.0 ∙ ap (onto b) (lines_whole l rest a.1)
 
-lines_last : (b : ℕ) (l : List ℕ) → All Inner (b ∷ l) → lines (b ∷ l) ≡ (b ∷ l) ∷ []
+lines_last : (b : ℕ) (l : List ℕ) → AllByRecursion Inner (b ∷ l) → lines (b ∷ l) ≡ (b ∷ l) ∷ []
 lines_last b [] a = inner_goes b [] a.0
 lines_last b (x ∷ l) a = inner_goes b (x ∷ l) a.0 ∙ ap (onto b) (lines_last x l a.1)
 
 -- the line at the front of a text, up to its first line end
 pub first_whole : (t : List ℕ) (n : ℕ) → n < length t → get_or t n 0 ≡ 10 → ((k : ℕ) → k < n → get_or t k 0 ≡ 10 → ⊥) → lines t ≡ take (n + 1) t ∷ lines (drop (n + 1) t)
 first_whole t n l e none' =
-    let a : All Inner (take n t) = All-from_get_or Inner (take n t) 0 (λ i h. let k : i < n = omega (arith, length-take-le n t (omega arith)) in λ z. none' i k (sym (get_or-take n t i 0 k) ∙ z)) in
+    let a : AllByRecursion Inner (take n t) = All-from_get_or Inner (take n t) 0 (λ i h. let k : i < n = omega (arith, length-take-le n t (omega arith)) in λ z. none' i k (sym (get_or-take n t i 0 k) ∙ z)) in
     let d : drop n t ≡ 10 ∷ drop (n + 1) t = drop_more t n 0 l ∙ ap (λ z. z ∷ drop (n + 1) t) e in
     let f : take (n + 1) t ≡ take n t ++ 10 ∷ [] = take_more t n 0 l ∙ ap (λ z. take n t ++ z ∷ []) e in
     ap lines (sym (take-append-drop n t) ∙ ap (λ z. take n t ++ z) d) ∙ lines_whole (take n t) (drop (n + 1) t) a ∙ ap (λ z. z ∷ lines (drop (n + 1) t)) (sym f)
@@ -60,17 +60,17 @@ lines_join (b ∷ t) =
     (λ e. ap (λ ls. flat_map (λ l. l) ls) (cond-false (eqb b 10) _ _ e) ∙ onto_joins b (lines t) ∙ ap (λ z. b ∷ z) (lines_join t)) (cases_Bool (eqb b 10))
 
 -- a form has no line end
-digits_inner : (t : List ℕ) → Unsigned t → All Inner t
+digits_inner : (t : List ℕ) → Unsigned t → AllByRecursion Inner t
 digits_inner t u = All-weaker Digit Inner (λ b h e. omega arith) t u.2
 
-number_inner : (t : List ℕ) → Number t → All Inner t
+number_inner : (t : List ℕ) → Number t → AllByRecursion Inner t
 number_inner t n = ⊎_elim (digits_inner t) (λ q. rw q.3 ((λ e. omega arith), digits_inner q.0 q.1)) n
 
 mutual
-  form_inner : (d : ℕ) (f : Form) → Shaped d f → All Inner (written f)
+  form_inner : (d : ℕ) (f : Form) → Shaped d f → AllByRecursion Inner (written f)
   form_inner d (form w a) s = ((λ e. omega arith), All-append Inner w (closed a) (All-weaker Letter Inner (λ b h e. omega arith) w s.1.2) (args_inner (d - 1) a s.2))
 
-  args_inner : (d : ℕ) (a : Args) → ShapedArgs d a → All Inner (closed a)
+  args_inner : (d : ℕ) (a : Args) → ShapedArgs d a → AllByRecursion Inner (closed a)
   args_inner d none s = ((λ e. omega arith), tt)
   args_inner d (number t a) s = ((λ e. omega arith), All-append Inner t (closed a) (number_inner t s.0) (args_inner d a s.1))
   args_inner d (inner f a) s = ((λ e. omega arith), All-append Inner (written f) (closed a) (form_inner d f s.0) (args_inner d a s.1))

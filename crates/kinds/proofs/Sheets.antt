@@ -1,6 +1,6 @@
 -- Texts of lists, for any kind: by its lawful items, their lines, and which item has a line.
 use Rattle.std.proofs.Common.{◌≡◌, ℕ, zero, suc, ◌+◌, ◌-◌, ◌<◌, ◌≤◌, Bool, true, false, List, [], ◌∷◌, ◌++◌, length, get_or, take, is_some, Some, None, Option, sym, refl, ap, ◌∙◌, subst, ap₂, ⊎_elim, arith}
-use Rattle.std.specs.List.{flat_map, AllByRecursion as All}
+use Rattle.std.specs.List.{flat_map, AllByRecursion}
 use Rattle.std.proofs.ByRecursion.{All-get_or}
 use Rattle.std.proofs.lemmas.List.{get_or-take, length-take-le}
 use Rattle.std.proofs.lemmas.Bool.{cases_eq, cases_order}
@@ -28,14 +28,14 @@ module _ {X : Type 0} (reading : List ℕ → Option X) where
   add_some (Some x) (Some ys) xs e = (x, ys, refl, refl, cc)
 
   -- good lines are those of a list
-  pub good_items : (ls : List (List ℕ)) → All (Good reading) ls → (xs : List X) × (items_of reading ls ≡ Some xs)
+  pub good_items : (ls : List (List ℕ)) → AllByRecursion (Good reading) ls → (xs : List X) × (items_of reading ls ≡ Some xs)
   good_items [] a = ([], refl)
   good_items (l ∷ ls) a =
       let x = good_some l (reading l) refl a.0 in
       let xs = good_items ls a.1 in
       (x.0 ∷ xs.0, ap₂ (add) x.1 xs.1)
 
-  pub items_good : (ls : List (List ℕ)) (xs : List X) → items_of reading ls ≡ Some xs → All (Good reading) ls
+  pub items_good : (ls : List (List ℕ)) (xs : List X) → items_of reading ls ≡ Some xs → AllByRecursion (Good reading) ls
   items_good [] xs e = tt
   items_good (l ∷ ls) xs e =
       let p = add_some (reading l) (items_of reading ls) xs e in

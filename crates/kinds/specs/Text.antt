@@ -1,6 +1,6 @@
 -- The text of a list of items, and what reading a text gives.
 use Rattle.std.specs.Prelude.{◌≡◌, ℕ, ◌+◌, ◌-◌, ◌<◌, ◌≤◌, Bool, true, false, cond, ◌⊎◌, List, [], ◌∷◌, ◌++◌, length, take, drop, is_some, Some, None, Ok, Err, Option, Result, ◌==◌, slice_index_or}
-use Rattle.std.specs.List.{flat_map, AllByRecursion as All}
+use Rattle.std.specs.List.{flat_map, AllByRecursion}
 use Rattle.refusal.specs.declared.Refusal.{Refusal}
 use Rattle.refusal.specs.declared.Refusal.TheVariants.{SmallTray, ShortOutput, UnlawfulItem, LargeSheet, NoSheet}
 use Rattle.shape.specs.Column.{Column}
@@ -23,7 +23,7 @@ ColumnOf l c = (WellShaped l → c ≡ 0) × ((WellShaped l → ⊥) → Column 
 -- A kind is known here by which items are lawful, by their lines, and by which item has a line.
 module _ {X : Type 0} (lawful : X → Bool) where
   abbrev pub AllLawful : List X → Type 0
-  AllLawful xs = All (λ x. lawful x ≡ true) xs
+  AllLawful xs = AllByRecursion (λ x. lawful x ≡ true) xs
 
   -- the first item that is not lawful, counted from 0
   pub record FirstUnlawful (xs : List X) (i : ℕ) : Type 0 where
@@ -83,7 +83,7 @@ module _ {X : Type 0} (reading : List ℕ → Option X) where
   pub record Faulty (t : List ℕ) (n c : ℕ) : Type 0 where
     pub first : 1 ≤ n
     pub within : n ≤ length (lines t)
-    pub before : All Good (take (n - 1) (lines t))
+    pub before : AllByRecursion Good (take (n - 1) (lines t))
     pub here : ((n ≤ most_items) × (Good (slice_index_or (lines t) (n - 1) []) → ⊥) × ColumnOf (slice_index_or (lines t) (n - 1) []) c) ⊎ ((n ≡ most_items + 1) × (c ≡ 0))
 
   -- Checking a text: how many items it is read as, or its first fault.

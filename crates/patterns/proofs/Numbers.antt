@@ -1,7 +1,7 @@
 -- The numbers of a line that a pattern and values make are those values.
 use Rattle.std.proofs.Common.{◌≡◌, ℕ, suc, ◌<◌, Bool, true, false, cond, ◌&&◌, eqb, List, [], ◌∷◌, ◌++◌, length, get_or, ℤ, pos, negsuc, Some, None, Option, sym, refl, ap, ◌∙◌, ⊎_elim, append_assoc, arith}
 use Rattle.std.specs.Str.Parse.{digits_value}
-use Rattle.std.specs.List.{AllByRecursion as All}
+use Rattle.std.specs.List.{AllByRecursion}
 use Rattle.std.specs.Str.{bytes_eq}
 use Rattle.std.proofs.ByRecursion.{All-weaker}
 use Rattle.std.proofs.lemmas.Slice.Eq.{bytes_eq-Decides}
@@ -40,7 +40,7 @@ add_digits z vs h = some_number (digits z) vs (some z h) ∙ ap (λ y. y ∷ vs)
     some (negsuc n) h = omega arith
 
 abbrev AllFigures : List ℕ → Type 0
-AllFigures t = All (λ b. figure b ≡ true) t
+AllFigures t = AllByRecursion (λ b. figure b ≡ true) t
 
 digits_figures : (z : ℤ) → InRange z → AllFigures (digits z)
 digits_figures (pos n) h = All-weaker Digit (λ b. figure b ≡ true) digit_figure (figures n) (figures_unsigned n h).2

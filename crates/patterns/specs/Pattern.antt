@@ -1,6 +1,6 @@
 -- Patterns: a line in which each "#" stands for a number.
 use Rattle.std.specs.Prelude.{◌≡◌, ℕ, ◌<◌, ◌≤◌, Bool, true, false, cond, not, ◌&&◌, ◌||◌, List, [], ◌∷◌, ◌++◌, length, drop, ℤ, Some, None, Option, ◌==◌, int_le, nat_le, nat_lt, slice_index, unsigned_abs}
-use Rattle.std.specs.List.{AllByRecursion as All}
+use Rattle.std.specs.List.{AllByRecursion}
 use Rattle.shape.specs.Decimal.{digits, InRange}
 use Rattle.shape.specs.Limits.{bound}
 use Rattle.patterns.specs.declared.Range.{Range}
@@ -46,7 +46,7 @@ ReadsPattern p rs l None = fitting p rs ≡ true → (vs : List ℤ) → Makes p
 
 -- values that lines can hold
 abbrev pub AllInRange : List ℤ → Type 0
-AllInRange vs = All InRange vs
+AllInRange vs = AllByRecursion InRange vs
 
 -- how long a line is that must fit a room
 abbrev pub FitsRoom : List ℕ → ℕ → Option ℕ → Type 0

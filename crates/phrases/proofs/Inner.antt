@@ -1,7 +1,7 @@
 -- What stands between the front and the end of a line that was given.
 use Rattle.std.proofs.Common.{◌≡◌, ℕ, ◌+◌, ◌-◌, ◌≤◌, true, false, ltb, List, [], ◌∷◌, ◌++◌, length, get_or, take, drop, Some, None, codes, Option, sym, refl, ap, ◌∙◌, arith, Bor, MatchOption}
 use Rattle.std.specs.Option.{option_map}
-use Rattle.std.specs.List.{AllByRecursion as All}
+use Rattle.std.specs.List.{AllByRecursion}
 use Rattle.std.proofs.lemmas.List.{append_cancel_left, append_cancel_right, take_at, take_rest}
 use Rattle.std.proofs.lemmas.Bool.{true≢false, and_parts, ltb-true}
 use Rattle.shape.specs.Decimal.{figures}
@@ -49,7 +49,7 @@ module _ (l inner : List ℕ) (e : l ≡ codes "(key " ++ (inner ++ codes ")\n")
       (omega (arith, ap length is), ap (λ x. get_or x 0 0) is, ap (λ x. get_or x 1 0) is, ap (drop 2) is, k.slot_last)
 
   -- a key line from what was read
-  pub key_line : (slot : ℕ) (key : List ℕ) → 2 ≤ length inner → get_or inner 0 0 ≡ 48 + slot → get_or inner 1 0 ≡ 32 → drop 2 inner ≡ hex_of key → slot ≤ 7 → All Byte key → good_key key ≡ true → KeyLine l slot key
+  pub key_line : (slot : ℕ) (key : List ℕ) → 2 ≤ length inner → get_or inner 0 0 ≡ 48 + slot → get_or inner 1 0 ≡ 32 → drop 2 inner ≡ hex_of key → slot ≤ 7 → AllByRecursion Byte key → good_key key ≡ true → KeyLine l slot key
   key_line slot key two first space digits h bytes good =
       let is : inner ≡ inner_of slot key =
       split_two inner two
@@ -68,18 +68,18 @@ module _ (inner before after : List ℕ) where
   abbrev digits : List ℕ
   digits = take (length inner - 2) (drop 2 inner)
 
-  pub no_digits : HexRead digits before after None → 32 ≤ length before → (key : List ℕ) → drop 2 inner ≡ hex_of key → All Byte key → good_key key ≡ true → ⊥
+  pub no_digits : HexRead digits before after None → 32 ≤ length before → (key : List ℕ) → drop 2 inner ≡ hex_of key → AllByRecursion Byte key → good_key key ≡ true → ⊥
   no_digits h room key e bytes good =
       let few = ltb-true (length key) 33 (and_parts (ltb 0 (length key)) (ltb (length key) 33) good).1 in
       h.0 key bytes (omega arith) (take_rest inner 2 ∙ e)
 
-  pub key_bytes : (n : ℕ) → HexRead digits before after (Some n) → (bytes : List ℕ) × All Byte bytes × (drop 2 inner ≡ hex_of bytes) × (take (n - 0) after ≡ bytes)
+  pub key_bytes : (n : ℕ) → HexRead digits before after (Some n) → (bytes : List ℕ) × AllByRecursion Byte bytes × (drop 2 inner ≡ hex_of bytes) × (take (n - 0) after ≡ bytes)
   key_bytes n h =
       let cut : n - 0 ≡ n = omega arith in
       (h.0, h.1, sym (take_rest inner 2) ∙ h.2, ap (λ k. take k after) cut ∙ ap (take n) h.5 ∙ take_at h.0 (drop n before) n (sym h.3))
 
   -- and they make no key
-  pub no_key : (n : ℕ) → HexRead digits before after (Some n) → good_key (take (n - 0) after) ≡ false → (key : List ℕ) → drop 2 inner ≡ hex_of key → All Byte key → good_key key ≡ true → ⊥
+  pub no_key : (n : ℕ) → HexRead digits before after (Some n) → good_key (take (n - 0) after) ≡ false → (key : List ℕ) → drop 2 inner ≡ hex_of key → AllByRecursion Byte key → good_key key ≡ true → ⊥
   no_key n h bad key e bytes good =
       let b = key_bytes n h in
       let same : b.0 ≡ key = same_hex b.0 key b.1 bytes (sym b.2 ∙ e) in

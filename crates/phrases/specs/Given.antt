@@ -1,6 +1,6 @@
 -- The lines that the programs take before sheets.
 use Rattle.std.specs.Prelude.{◌≡◌, ℕ, ◌≤◌, true, List, ◌++◌, Some, None, codes, Option, ◌≢◌}
-use Rattle.std.specs.List.{AllByRecursion as All}
+use Rattle.std.specs.List.{AllByRecursion}
 use Rattle.shape.specs.Decimal.{figures}
 use Rattle.sealed.specs.Hex.{Byte, hex_of}
 use Rattle.sealed.specs.Limits.{last_slot, last_serial}
@@ -15,7 +15,7 @@ Between l front end None = (inner : List ℕ) → l ≢ front ++ (inner ++ end)
 pub record KeyLine (l : List ℕ) (slot : ℕ) (key : List ℕ) : Type 0 where
   pub slot_last : slot ≤ last_slot
   pub key_good : good_key key ≡ true
-  pub key_bytes : All Byte key
+  pub key_bytes : AllByRecursion Byte key
   pub line : l ≡ codes "(key " ++ (figures slot ++ (codes " " ++ (hex_of key ++ codes ")\n")))
 
 -- The line that names the last serial used, with its line end.

@@ -1,6 +1,6 @@
 -- Each sample of the table holds.
 use Rattle.std.proofs.Common.{◌≡◌, ℕ, zero, suc, ◌^◌, ◌<◌, List, [], pos, codes, refl, arith}
-use Rattle.std.specs.List.{AllByRecursion as All}
+use Rattle.std.specs.List.{AllByRecursion}
 use Rattle.hash.specs.Nh.{keyed, group, nh}
 use Rattle.hash.specs.Hash.{block_number, turn, h_of, h_at, affine}
 use Rattle.hash.specs.Message.{message}
@@ -43,7 +43,7 @@ infixr 5 ◌&◌
 ◌&◌ : {A B : Type 0} → A → B → A × B
 a & b = (a, b)
 
-pub table_holds : All Holds table
+pub table_holds : AllByRecursion Holds table
 unfolding subkey_nonce keyed group nh block_number turn h_of affine numbers figures header_of message
 table_holds =
     refl

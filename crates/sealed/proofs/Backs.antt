@@ -1,6 +1,6 @@
 -- What is written reads back.
 use Rattle.std.proofs.Common.{◌≡◌, ℕ, ◌-◌, ◌<◌, ◌≤◌, List, ◌++◌, length, get_or, take, drop, Some, None, Ok, Err, Option, Result, sym, refl, ap, arith}
-use Rattle.std.specs.List.{AllByRecursion as All}
+use Rattle.std.specs.List.{AllByRecursion}
 use Rattle.std.proofs.lemmas.List.{take_at}
 use Rattle.std.proofs.ByRecursion.{All-from_get_or}
 use Rattle.refusal.specs.declared.Refusal.{Refusal}
@@ -23,14 +23,14 @@ roomy (Some e) needed room h = h
 roomy None needed room h = refl
 
 -- what a writer took is lawful
-pub written_lawful : (p : Parts) (before after : List ℕ) (n : ℕ) → p.serial ≤ last_serial → All Byte p.siv → All Byte p.text → WritesLine p before after (Ok n) → Lawful p
+pub written_lawful : (p : Parts) (before after : List ℕ) (n : ℕ) → p.serial ≤ last_serial → AllByRecursion Byte p.siv → AllByRecursion Byte p.text → WritesLine p before after (Ok n) → Lawful p
 written_lawful p before after n l a b h =
     let q = header_refusal p.slot p.kind p.serial in
     let all = roomy (length_refusal q (length p.siv) (length p.text)) (length (sealed_line p)) (length before) (written_ok _ (sealed_line p) before after n h).0 in
     let long = lengths_lawful q (length p.siv) (length p.text) all in
     record { head = header_lawful p.slot p.kind p.serial (passed q (length p.siv) (length p.text) all) l; siv_long = long.0; siv_bytes = a; text_long = long.1; text_bytes = b }
 
-module _ (p : Parts) (before after : List ℕ) (n : ℕ) (l : p.serial ≤ last_serial) (a : All Byte p.siv) (b : All Byte p.text) (h : WritesLine p before after (Ok n)) where
+module _ (p : Parts) (before after : List ℕ) (n : ℕ) (l : p.serial ≤ last_serial) (a : AllByRecursion Byte p.siv) (b : AllByRecursion Byte p.text) (h : WritesLine p before after (Ok n)) where
   lawful : Lawful p
   lawful = written_lawful p before after n l a b h
 
@@ -54,5 +54,5 @@ refused_back p before after e h = came _ h
     came (Some d) h = let f = h.0 in let g : e ≡ d = cc in ap Some (sym g)
     came None h = absurd (let f = h.0 in let z : ◌≡◌ {A = ℕ} 0 1 = cc in omega arith)
 
-pub all_bytes : (xs : List ℕ) → ((i : ℕ) → get_or xs i 0 < 256) → All Byte xs
+pub all_bytes : (xs : List ℕ) → ((i : ℕ) → get_or xs i 0 < 256) → AllByRecursion Byte xs
 all_bytes xs f = All-from_get_or Byte xs 0 (λ i l. f i)

@@ -1,6 +1,6 @@
 -- Hexadecimal digits and the bytes that they write.
 use Rattle.std.proofs.Common.{◌≡◌, ℕ, zero, suc, ◌+◌, ◌-◌, ◌*◌, ◌/◌, ◌%◌, ◌<◌, ◌≤◌, Bool, true, List, [], ◌∷◌, ◌++◌, length, take, replicate, Ok, Err, sym, refl, ap, ◌∙◌, ap₂, inl, arith, length-append}
-use Rattle.std.specs.List.{AllByRecursion as All}
+use Rattle.std.specs.List.{AllByRecursion}
 use Rattle.std.proofs.lemmas.List.{length-take-le, length-replicate}
 use Rattle.std.proofs.ByRecursion.{All-append}
 use Rattle.std.proofs.lemmas.Bool.Decides.{nat_tests}
@@ -29,27 +29,27 @@ pub length_hex : (bytes : List ℕ) → length (hex_of bytes) ≡ 2 * length byt
 length_hex [] = refl
 length_hex (b ∷ bytes) = omega (arith, length_hex bytes)
 
-pub hex_digits : (bytes : List ℕ) → All Byte bytes → All HexDigit (hex_of bytes)
+pub hex_digits : (bytes : List ℕ) → AllByRecursion Byte bytes → AllByRecursion HexDigit (hex_of bytes)
 hex_digits [] a = tt
 hex_digits (b ∷ bytes) a = (digit_is (b / 16) (omega (arith, a.0)), (digit_is (b % 16) (omega arith), hex_digits bytes a.1))
 
-pub bytes_hex : (bytes : List ℕ) → All Byte bytes → bytes_of (hex_of bytes) ≡ bytes
+pub bytes_hex : (bytes : List ℕ) → AllByRecursion Byte bytes → bytes_of (hex_of bytes) ≡ bytes
 bytes_hex [] a = refl
 bytes_hex (b ∷ bytes) a =
     let h = value_digit (b / 16) (omega (arith, a.0)) in
     let l = value_digit (b % 16) (omega arith) in
     ap₂ ◌∷◌ (omega arith) (bytes_hex bytes a.1)
 
-pub same_hex : (x y : List ℕ) → All Byte x → All Byte y → hex_of x ≡ hex_of y → x ≡ y
+pub same_hex : (x y : List ℕ) → AllByRecursion Byte x → AllByRecursion Byte y → hex_of x ≡ hex_of y → x ≡ y
 same_hex x y a b e = sym (bytes_hex x a) ∙ ap bytes_of e ∙ bytes_hex y b
 
-pub bytes_small : (digits : List ℕ) → All Byte (bytes_of digits)
+pub bytes_small : (digits : List ℕ) → AllByRecursion Byte (bytes_of digits)
 bytes_small [] = tt
 bytes_small (c ∷ []) = tt
 bytes_small (c ∷ (d ∷ digits)) = (omega (arith, value_small c, value_small d), bytes_small digits)
 
 -- digits of whole bytes
-pub hex_bytes : (k : ℕ) (digits : List ℕ) → length digits ≡ 2 * k → All HexDigit digits → (hex_of (bytes_of digits) ≡ digits) × (length (bytes_of digits) ≡ k)
+pub hex_bytes : (k : ℕ) (digits : List ℕ) → length digits ≡ 2 * k → AllByRecursion HexDigit digits → (hex_of (bytes_of digits) ≡ digits) × (length (bytes_of digits) ≡ k)
 hex_bytes zero [] e a = (refl, refl)
 hex_bytes zero (c ∷ digits) e a = absurd (omega arith)
 hex_bytes (suc k) [] e a = absurd (omega arith)
@@ -62,12 +62,12 @@ hex_bytes (suc k) (c ∷ (d ∷ digits)) e a =
     let l : (digit_value c * 16 + digit_value d) % 16 ≡ digit_value d = omega arith in
     (ap₂ ◌∷◌ (ap hex_digit h ∙ digit_back c a.0) (ap₂ ◌∷◌ (ap hex_digit l ∙ digit_back d a.1.0) r.0), omega (arith, r.1))
 
-pub hex_token_is : (allowed : ℕ → Bool) (k : ℕ) (digits : List ℕ) → length digits ≡ 2 * k → All HexDigit digits → allowed k ≡ true → HexOf allowed digits
+pub hex_token_is : (allowed : ℕ → Bool) (k : ℕ) (digits : List ℕ) → length digits ≡ 2 * k → AllByRecursion HexDigit digits → allowed k ≡ true → HexOf allowed digits
 hex_token_is allowed k digits e a ok =
     let r = hex_bytes k digits e a in
     (bytes_of digits, bytes_small digits, ap allowed r.1 ∙ ok, sym r.0)
 
-all_zeros : (m : ℕ) → All HexDigit (replicate m 48)
+all_zeros : (m : ℕ) → AllByRecursion HexDigit (replicate m 48)
 all_zeros zero = tt
 all_zeros (suc m) = (inl (omega arith, omega arith), all_zeros m)
 
@@ -85,7 +85,7 @@ module _ (allowed : ℕ → Bool) (most : ℕ) (top : allowed most ≡ true) (bo
         begins = (pad, hex_token_is allowed most (take n s ++ pad) e (All-append HexDigit (take n s) pad run.all (all_zeros (2 * most - n))) top);
         stops = λ l f.
             let x = f.1 in
-            let digits : All HexDigit (take (n + 1) s ++ f.0) = rw x.3 (hex_digits x.0 x.1) in
+            let digits : AllByRecursion HexDigit (take (n + 1) s ++ f.0) = rw x.3 (hex_digits x.0 x.1) in
             run.stops (omega (arith, grown_length s n f.0 l, ap length x.3, length_hex x.0, bound (length x.0) x.2)) l (grown_byte s n f.0 l HexDigit digits);
       }
 

@@ -1,6 +1,6 @@
 -- The pieces of a sealed line, one after the other, and the line that they make.
 use Rattle.std.proofs.Common.{◌≡◌, ℕ, zero, suc, ◌+◌, ◌-◌, ◌^◌, ◌<◌, ◌≤◌, Bool, true, List, [], ◌∷◌, ◌++◌, length, get_or, take, drop, replicate, Ok, Err, codes, sym, refl, ap, ◌∙◌, ap₂, ⊎_elim, append_assoc, arith}
-use Rattle.std.specs.List.{AllByRecursion as All}
+use Rattle.std.specs.List.{AllByRecursion}
 use Rattle.std.proofs.lemmas.List.{append_cancel_left, take-append-drop, take_at, drop_at, drop-drop, length-take-le, length-replicate}
 use Rattle.std.proofs.ByRecursion.{All-weaker}
 use Rattle.shape.specs.Decimal.{figures}
@@ -31,7 +31,7 @@ pub record Closing (H : List ℕ → Type 0) : Type 0 where
 
 -- a set of tokens, one of which is known
 pub record Inside (T : List ℕ → Type 0) : Type 0 where
-  pub class : (t : List ℕ) → T t → All Inner t
+  pub class : (t : List ℕ) → T t → AllByRecursion Inner t
   pub some : List ℕ
   pub is : T some
 
@@ -76,16 +76,16 @@ found_spells p T s n t f =
     o.cut ∙ ap₂ ◌++◌ o.is (sym left ∙ f.cut)
 
 -- the tokens of the line
-value_inner : (low high : ℕ) → high < 2 ^ 64 → (t : List ℕ) → Value low high t → All Inner t
+value_inner : (low high : ℕ) → high < 2 ^ 64 → (t : List ℕ) → Value low high t → AllByRecursion Inner t
 value_inner low high h t x = rw x.3 (All-weaker Digit Inner (λ b d. omega arith) _ (figures_digits x.0 (omega (arith, x.2))))
 
 pub values : (low high : ℕ) → low ≤ 1 → 1 ≤ high → high < 2 ^ 64 → Inside (Value low high)
 values low high l h k = record { class = value_inner low high k; some = 49 ∷ []; is = (1, l, h, sym (figures_one 1 (omega arith))) }
 
-hex_inner : (allowed : ℕ → Bool) (t : List ℕ) → HexOf allowed t → All Inner t
+hex_inner : (allowed : ℕ → Bool) (t : List ℕ) → HexOf allowed t → AllByRecursion Inner t
 hex_inner allowed t x = rw x.3 (All-weaker HexDigit Inner (λ b d. omega arith) _ (hex_digits x.0 x.1))
 
-pub zero_bytes : (n : ℕ) → All Byte (replicate n 0)
+pub zero_bytes : (n : ℕ) → AllByRecursion Byte (replicate n 0)
 zero_bytes zero = tt
 zero_bytes (suc n) = (omega arith, zero_bytes n)
 
@@ -156,7 +156,7 @@ unfolding sealed_line header_of rest_of
 spelt p = simp append_assoc
 
 -- a token and what follows it are the same in two equal writings
-same_step : (p t u v w : List ℕ) → All Inner t → All Inner u → (0 < length v) × (Inner (get_or v 0 0) → ⊥) → (0 < length w) × (Inner (get_or w 0 0) → ⊥) → p ++ (t ++ v) ≡ p ++ (u ++ w) → (t ≡ u) × (v ≡ w)
+same_step : (p t u v w : List ℕ) → AllByRecursion Inner t → AllByRecursion Inner u → (0 < length v) × (Inner (get_or v 0 0) → ⊥) → (0 < length w) × (Inner (get_or w 0 0) → ⊥) → p ++ (t ++ v) ≡ p ++ (u ++ w) → (t ≡ u) × (v ≡ w)
 same_step p t u v w a b c d e = parts_agree Inner t u v w a b c.1 c.0 d.1 d.0 (append_cancel_left p (t ++ v) (u ++ w) e)
 
 same_parts : (p q : Parts) → p.slot ≡ q.slot → p.kind ≡ q.kind → p.serial ≡ q.serial → p.siv ≡ q.siv → p.text ≡ q.text → p ≡ q
@@ -164,10 +164,10 @@ same_parts p q e₁ e₂ e₃ e₄ e₅ =
     let made : ℕ → ℕ → ℕ → List ℕ → List ℕ → Parts = λ a b c d e. record { slot = a; kind = b; serial = c; siv = d; text = e } in
     ap (λ a. made a p.kind p.serial p.siv p.text) e₁ ∙ ap (λ b. made q.slot b p.serial p.siv p.text) e₂ ∙ ap (λ c. made q.slot q.kind c p.siv p.text) e₃ ∙ ap₂ (λ d e. made q.slot q.kind q.serial d e) e₄ e₅
 
-figures_inner : (n : ℕ) → n < 2 ^ 64 → All Inner (figures n)
+figures_inner : (n : ℕ) → n < 2 ^ 64 → AllByRecursion Inner (figures n)
 figures_inner n h = value_inner n n h (figures n) (n, omega arith, omega arith, refl)
 
-bytes_inner : (bytes : List ℕ) → All Byte bytes → All Inner (hex_of bytes)
+bytes_inner : (bytes : List ℕ) → AllByRecursion Byte bytes → AllByRecursion Inner (hex_of bytes)
 bytes_inner bytes a = hex_inner (λ _. true) (hex_of bytes) (bytes, a, refl, refl)
 
 pub one_reading : OneReading

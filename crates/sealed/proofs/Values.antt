@@ -2,7 +2,7 @@
 use Rattle.std.proofs.Common.{◌≡◌, ℕ, ◌+◌, ◌-◌, ◌*◌, ◌^◌, ◌<◌, ◌≤◌, List, [], ◌∷◌, ◌++◌, length, get_or, take, Ok, Err, sym, refl, ap, ◌∙◌, ⊎_elim, arith}
 use Rattle.std.specs.Str.Parse.{AllDigits, digits_value, digits_value_after}
 use Rattle.std.specs.Char.{digit_value}
-use Rattle.std.specs.List.{AllByRecursion as All}
+use Rattle.std.specs.List.{AllByRecursion}
 use Rattle.std.proofs.lemmas.Int.Digits.{digits_value_more}
 use Rattle.std.proofs.lemmas.List.{append-nil, length-take-le, take_more, get_or-take}
 use Rattle.std.proofs.lemmas.Str.Parse.{IsNumeralModel, numerals_by_value, tells_digits, digit_from_value}
@@ -22,15 +22,15 @@ own = numerals_by_value (AllDigits 10) tells_digits
 digit_value_is : (c : ℕ) → Digit c → digit_value c ≡ c - 48
 digit_value_is c h = grind (arith, nat_tests)
 
-all_from : (t : List ℕ) → AllDigits 10 t → All Digit t
+all_from : (t : List ℕ) → AllDigits 10 t → AllByRecursion Digit t
 all_from [] d = tt
 all_from (x ∷ t) d = (digit_from_value x d.0, all_from t d.1)
 
 -- digits without a leading zero are the figures of their value
-pub figures_value : (t : List ℕ) → All Digit t → 0 < length t → (get_or t 0 0 ≡ 48 → length t ≡ 1) → digits_value 10 t < 2 ^ 64 → t ≡ figures (digits_value 10 t)
+pub figures_value : (t : List ℕ) → AllByRecursion Digit t → 0 < length t → (get_or t 0 0 ≡ 48 → length t ≡ 1) → digits_value 10 t < 2 ^ 64 → t ≡ figures (digits_value 10 t)
 figures_value t a z lead h = sym (figures_are (digits_value 10 t) h ∙ decimal-digits_value own t (from_all t a) z lead h)
 
-pub figures_digits : (n : ℕ) → n < 2 ^ 64 → All Digit (figures n)
+pub figures_digits : (n : ℕ) → n < 2 ^ 64 → AllByRecursion Digit (figures n)
 figures_digits n h = rw (figures_are n h) (all_from _ (digits_decimal own n h))
 
 pub figures_some : (n : ℕ) → n < 2 ^ 64 → 0 < length (figures n)

@@ -1,6 +1,6 @@
 -- Texts that are a number or bytes in hexadecimal as a whole.
 use Rattle.std.proofs.Common.{◌≡◌, ℕ, ◌+◌, ◌*◌, ◌/◌, ◌%◌, ◌<◌, ◌≤◌, List, length, take, drop, Err, sym, ap, ◌∙◌, subst, ⊎_elim, arith}
-use Rattle.std.specs.List.{AllByRecursion as All}
+use Rattle.std.specs.List.{AllByRecursion}
 use Rattle.std.proofs.lemmas.List.{take_all, take-append-drop}
 use Rattle.std.proofs.lemmas.Bool.{cases_lt}
 use Rattle.shape.specs.Column.{Front}
@@ -35,7 +35,7 @@ module _ (s : List ℕ) where
   pub hex_even : (bytes : List ℕ) → s ≡ hex_of bytes → length s ≡ 2 * length bytes
   hex_even bytes e = ap length e ∙ length_hex bytes
 
-  pub whole_hex : length s % 2 ≡ 0 → All HexDigit s → (s ≡ hex_of (bytes_of s)) × (length (bytes_of s) ≡ length s / 2)
+  pub whole_hex : length s % 2 ≡ 0 → AllByRecursion HexDigit s → (s ≡ hex_of (bytes_of s)) × (length (bytes_of s) ≡ length s / 2)
   whole_hex even digits =
       let w = hex_bytes (length s / 2) s (omega arith) digits in
       (sym w.0, w.1)

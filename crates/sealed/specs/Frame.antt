@@ -1,7 +1,7 @@
 -- The sealed line piece by piece, for its reader: literals, and tokens that a bracket follows.
 use Rattle.std.specs.Prelude.{◌≡◌, ℕ, ◌+◌, ◌-◌, ◌*◌, ◌<◌, ◌≤◌, Bool, true, ◌⊎◌, List, ◌++◌, length, take, drop, Err, codes, slice_index}
 use Rattle.std.specs.Str.Parse.{digits_value}
-use Rattle.std.specs.List.{AllByRecursion as All}
+use Rattle.std.specs.List.{AllByRecursion}
 use Rattle.shape.specs.Decimal.{figures}
 use Rattle.shape.specs.Form.{Digit}
 use Rattle.shape.specs.Outcome.{Read, Fault, Then, Is}
@@ -15,7 +15,7 @@ Value low high t = (n : ℕ) × (low ≤ n) × (n ≤ high) × (t ≡ figures n)
 
 -- hexadecimal digits of a number of bytes that is allowed
 abbrev pub HexOf : (ℕ → Bool) → List ℕ → Type 0
-HexOf allowed t = (bytes : List ℕ) × All Byte bytes × (allowed (length bytes) ≡ true) × (t ≡ hex_of bytes)
+HexOf allowed t = (bytes : List ℕ) × AllByRecursion Byte bytes × (allowed (length bytes) ≡ true) × (t ≡ hex_of bytes)
 
 -- what is left of a line, its line end not counted, from each literal on
 abbrev pub FromEnd : List ℕ → Type 0
@@ -39,7 +39,7 @@ Whole = Then (Is (codes "(sealed (slot ")) (Then (Value 0 last_slot) FromKind)
 -- The first n bytes are digits of the value v, at most `high`, and with one digit more it is above.
 pub record Counts (high : ℕ) (s : List ℕ) (n v : ℕ) : Type 0 where
   pub fits : n ≤ length s
-  pub all : All Digit (take n s)
+  pub all : AllByRecursion Digit (take n s)
   pub is : v ≡ digits_value 10 (take n s)
   pub small : v ≤ high
   pub stops : n < length s → Digit (slice_index s n) → high < v * 10 + (slice_index s n - 48)

@@ -1,6 +1,6 @@
 -- The sealed line.
 use Rattle.std.specs.Prelude.{◌≡◌, ℕ, ◌≤◌, true, List, ◌++◌, length, codes}
-use Rattle.std.specs.List.{AllByRecursion as All}
+use Rattle.std.specs.List.{AllByRecursion}
 use Rattle.shape.specs.Decimal.{figures}
 use Rattle.sealed.specs.Hex.{Byte, hex_of}
 use Rattle.sealed.specs.Limits.{last_slot, first_kind, last_kind, first_serial, last_serial, siv_length, text_length, longest_header, longest_line}
@@ -38,9 +38,9 @@ pub record LawfulHeader (slot kind serial : ℕ) : Type 0 where
 pub record Lawful (p : Parts) : Type 0 where
   pub head : LawfulHeader p.slot p.kind p.serial
   pub siv_long : siv_length (length p.siv) ≡ true
-  pub siv_bytes : All Byte p.siv
+  pub siv_bytes : AllByRecursion Byte p.siv
   pub text_long : text_length (length p.text) ≡ true
-  pub text_bytes : All Byte p.text
+  pub text_bytes : AllByRecursion Byte p.text
 
 abbrev pub SealedLine : List ℕ → Type 0
 SealedLine l = (p : Parts) × Lawful p × (l ≡ sealed_line p)

@@ -1,6 +1,6 @@
 -- Texts that are a number or bytes in hexadecimal as a whole.
 use Rattle.std.specs.Prelude.{◌≡◌, ℕ, ◌≤◌, List, ◌++◌, length, drop, Some, None, Option, ◌≢◌}
-use Rattle.std.specs.List.{AllByRecursion as All}
+use Rattle.std.specs.List.{AllByRecursion}
 use Rattle.shape.specs.Decimal.{figures}
 use Rattle.sealed.specs.Hex.{Byte, hex_of}
 use Rattle.sealed.specs.Limits.{last_serial}
@@ -14,6 +14,6 @@ NumberRead text None = (n : ℕ) → n ≤ last_serial → text ≢ figures n
 -- as it was where nothing is answered.
 abbrev pub HexRead : (text before after : List ℕ) → Option ℕ → Type 0
 HexRead text before after (Some n) =
-    (bytes : List ℕ) × All Byte bytes × (text ≡ hex_of bytes) × (n ≡ length bytes) × (n ≤ length before) × (after ≡ bytes ++ drop n before)
+    (bytes : List ℕ) × AllByRecursion Byte bytes × (text ≡ hex_of bytes) × (n ≡ length bytes) × (n ≤ length before) × (after ≡ bytes ++ drop n before)
 HexRead text before after None =
-    ((bytes : List ℕ) → All Byte bytes → length bytes ≤ length before → text ≢ hex_of bytes) × (after ≡ before)
+    ((bytes : List ℕ) → AllByRecursion Byte bytes → length bytes ≤ length before → text ≢ hex_of bytes) × (after ≡ before)

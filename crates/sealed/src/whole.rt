@@ -3,14 +3,14 @@
 ghost use Rattle.std.specs.Prelude.{◌≡◌, ℕ, ◌≤◌, Decides};
 ghost use Rattle.sealed.specs.Hex.{HexDigit};
 ghost use Rattle.sealed.specs.Whole.{NumberRead, HexRead};
-ghost use Rattle.std.specs.List.{AllByRecursion as All};
+ghost use Rattle.std.specs.List.{AllByRecursion};
 
 use crate::hex::{is_hex, put_bytes};
 use crate::unchecked::reading::read_value;
 
 // Whether every byte is a hexadecimal digit, capitals not counted.
 fn all_hex(digits: &[u8]) -> bool
-    ensures { Decides result (All HexDigit digits.now) }
+    ensures { Decides result (AllByRecursion HexDigit digits.now) }
 {
     for b in digits {
         if !is_hex(*b) {

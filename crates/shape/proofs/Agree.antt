@@ -1,6 +1,6 @@
 -- Two writings that share what was read of them are the same writing: facts on lists and forms alone.
 use Rattle.std.proofs.Common.{◌≡◌, ℕ, ◌-◌, ◌<◌, List, [], ◌∷◌, ◌++◌, length, get_or, refl, ap, ◌∙◌, ap₂, ⊎_elim, append_assoc, arith}
-use Rattle.std.specs.List.{AllByRecursion as All}
+use Rattle.std.specs.List.{AllByRecursion}
 use Rattle.std.proofs.ByRecursion.{All-weaker}
 use Rattle.shape.specs.Form.{Form, Args, form, none, number, inner, written, closed, Letter, Digit, Word, Unsigned, Number, Shaped, ShapedArgs, Unique, Tails}
 use Rattle.shape.specs.Limits.{deepest}
@@ -10,13 +10,13 @@ use Rattle.shape.proofs.Tokens.{parts_agree}
 abbrev pub Inside : ℕ → Type 0
 Inside b = (b ≡ 32 → ⊥) × (b ≡ 41 → ⊥)
 
-pub word_inside : (w : List ℕ) → Word w → All Inside w
+pub word_inside : (w : List ℕ) → Word w → AllByRecursion Inside w
 word_inside w h = All-weaker Letter Inside (λ x l. omega arith) w h.2
 
-unsigned_inside : (t : List ℕ) → Unsigned t → All Inside t
+unsigned_inside : (t : List ℕ) → Unsigned t → AllByRecursion Inside t
 unsigned_inside t h = All-weaker Digit Inside (λ x l. omega arith) t h.2
 
-pub number_inside : (t : List ℕ) → Number t → All Inside t
+pub number_inside : (t : List ℕ) → Number t → AllByRecursion Inside t
 number_inside t h = ⊎_elim (unsigned_inside t) (λ p. rw p.3 (omega arith, unsigned_inside p.0 p.1)) h
 
 -- what follows a word or a number
@@ -38,7 +38,7 @@ not_empty none k = omega arith
 not_empty (number t a) k = omega arith
 not_empty (inner f a) k = omega arith
 
-same_token : (t t' : List ℕ) (a b : Args) (k k' : List ℕ) → All Inside t → All Inside t' → (t ++ closed a) ++ k ≡ (t' ++ closed b) ++ k' → (t ≡ t') × (closed a ++ k ≡ closed b ++ k')
+same_token : (t t' : List ℕ) (a b : Args) (k k' : List ℕ) → AllByRecursion Inside t → AllByRecursion Inside t' → (t ++ closed a) ++ k ≡ (t' ++ closed b) ++ k' → (t ≡ t') × (closed a ++ k ≡ closed b ++ k')
 same_token t t' a b k k' i i' e = parts_agree Inside t t' (closed a ++ k) (closed b ++ k') i i' (no_inside a k) (not_empty a k) (no_inside b k') (not_empty b k') (simp append_assoc at e)
 
 pub form_first : (f : Form) (x : List ℕ) → get_or (written f ++ x) 0 0 ≡ 40

@@ -2,7 +2,7 @@
 use Rattle.std.proofs.Common.{◌≡◌, ℕ, ◌+◌, ◌-◌, ◌*◌, ◌/◌, ◌%◌, ◌^◌, ◌<◌, ◌≤◌, List, [], ◌∷◌, ◌++◌, length, get_or, take, drop, set, decimal, sym, ap, ◌∙◌, inl, inr, append_assoc, arith, rules}
 use Rattle.std.specs.Str.Parse.{AllDigits, digits_value}
 use Rattle.std.specs.Char.{digit_value as digitValue}
-use Rattle.std.specs.List.{AllByRecursion as All}
+use Rattle.std.specs.List.{AllByRecursion}
 use Rattle.std.proofs.lemmas.Int.Digits.{digits_value_more}
 use Rattle.std.proofs.lemmas.List.{take_all, length-take, length_push, drop_more, set_at}
 use Rattle.std.proofs.lemmas.Bool.Decides.{nat_tests}
@@ -50,14 +50,14 @@ pub figures_first : (n : ℕ) → 0 < n → n < 2 ^ 64 → 48 < get_or (figures 
 figures_first n z h = rw (figures_are n h) (first_decimal n z h)
 
 -- a number of lines
-all_from : (t : List ℕ) → AllDigits 10 t → All Digit t
+all_from : (t : List ℕ) → AllDigits 10 t → AllByRecursion Digit t
 all_from [] d = tt
 all_from (x ∷ t) d = (digit_from_value x d.0, all_from t d.1)
 
 digit_value : (c : ℕ) → Digit c → digitValue c ≡ c - 48
 digit_value c h = grind (arith, nat_tests)
 
-pub from_all : (t : List ℕ) → All Digit t → AllDigits 10 t
+pub from_all : (t : List ℕ) → AllByRecursion Digit t → AllDigits 10 t
 from_all [] a = tt
 from_all (x ∷ t) a = (omega (arith, digit_value x a.0), from_all t a.1)
 

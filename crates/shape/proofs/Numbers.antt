@@ -1,6 +1,6 @@
 -- From runs of a class of bytes to tokens.
 use Rattle.std.proofs.Common.{◌≡◌, ℕ, suc, ◌+◌, ◌<◌, ◌≤◌, List, [], ◌∷◌, ◌++◌, length, get_or, take, Ok, Err, sym, refl, ap, ◌∙◌, inl, inr, ⊎_elim, append_assoc, one-add, arith, length-append}
-use Rattle.std.specs.List.{AllByRecursion as All}
+use Rattle.std.specs.List.{AllByRecursion}
 use Rattle.std.proofs.lemmas.List.{append-nil, length-take-le, take_more, get_or-take, get_or_append_left}
 use Rattle.std.proofs.lemmas.Bool.{cases_eq, cases_lt}
 use Rattle.std.proofs.lemmas.Bool.Decides.{nat_tests}
@@ -9,7 +9,7 @@ use Rattle.shape.specs.Form.{Letter, Digit, Word, Unsigned, Number}
 use Rattle.shape.specs.Limits.{most_letters, most_digits}
 use Rattle.shape.specs.Token.{Munch, Runs, Token, allowed_digits}
 
-pub all_back : (C : ℕ → Type 0) (t : List ℕ) (b : ℕ) (r : List ℕ) → All C (t ++ b ∷ r) → C b
+pub all_back : (C : ℕ → Type 0) (t : List ℕ) (b : ℕ) (r : List ℕ) → AllByRecursion C (t ++ b ∷ r) → C b
 all_back C [] b r a = a.0
 all_back C (x ∷ t) b r a = all_back C t b r a.1
 
@@ -24,7 +24,7 @@ module _ (s : List ℕ) (n : ℕ) (rest : List ℕ) (l : n < length s) where
   pub grown_first : get_or Grown 0 0 ≡ get_or s 0 0
   grown_first = get_or_append_left (take (n + 1) s) rest 0 0 (omega (arith, length-take-le (n + 1) s (omega arith))) ∙ get_or-take (n + 1) s 0 0 (omega arith)
 
-  pub grown_byte : (C : ℕ → Type 0) → All C Grown → C (get_or s n 0)
+  pub grown_byte : (C : ℕ → Type 0) → AllByRecursion C Grown → C (get_or s n 0)
   grown_byte C a = all_back C (take n s) (get_or s n 0) rest (rw (take_more s n 0 l, append_assoc) at a)
 
 -- a word

@@ -1,6 +1,6 @@
 -- Lines made of literals and tokens, one after the other.
 use Rattle.std.proofs.Common.{◌≡◌, ℕ, ◌+◌, ◌<◌, ◌≤◌, List, ◌∷◌, ◌++◌, length, get_or, take, drop, Ok, Err, Result, sym, refl, ap, ◌∙◌, ap₂, append_assoc, arith}
-use Rattle.std.specs.List.{AllByRecursion as All}
+use Rattle.std.specs.List.{AllByRecursion}
 use Rattle.std.proofs.lemmas.List.{take-append-drop, length-take-le, append_cancel_left, drop_at, drop_more, length-drop, take_all, drop-drop}
 use Rattle.shape.specs.Outcome.{Read, Fault, Outcome, shift, CarriesTo, Then, Is}
 use Rattle.shape.specs.Token.{Token, Shares}
@@ -53,7 +53,7 @@ literal_shared p s n h e =
     record { front = take n s; back = drop n s; cut = sym (take-append-drop n s); long = length-take-le n s h.fits; is = same }
 
 -- A literal, a token whose bytes are of the class C, and what follows, which begins with another byte.
-module _ (C : ℕ → Type 0) (p : List ℕ) (T H : List ℕ → Type 0) (class : (t : List ℕ) → T t → All C t) (ends : (v : List ℕ) → H v → (0 < length v) × (C (get_or v 0 0) → ⊥)) where
+module _ (C : ℕ → Type 0) (p : List ℕ) (T H : List ℕ → Type 0) (class : (t : List ℕ) → T t → AllByRecursion C t) (ends : (v : List ℕ) → H v → (0 < length v) × (C (get_or v 0 0) → ⊥)) where
   pub part_literal : (s : List ℕ) (n : ℕ) (t v : List ℕ) → T t → H v → Fault (Is p) s n → Fault (Then (Is p) (Then T H)) s n
   part_literal s n t v g h o = then_fault (Is p) (Then T H) s n (t ++ v) (t, v, g, h, refl) o
 

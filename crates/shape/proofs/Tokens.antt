@@ -1,6 +1,6 @@
 -- A token and what follows it, for any set T whose texts are of bytes that can not follow one.
 use Rattle.std.proofs.Common.{◌≡◌, ℕ, ◌+◌, ◌<◌, ◌≤◌, List, [], ◌∷◌, ◌++◌, length, get_or, take, drop, sym, refl, ap, ◌∙◌, ap₂, append_assoc, arith}
-use Rattle.std.specs.List.{AllByRecursion as All}
+use Rattle.std.specs.List.{AllByRecursion}
 use Rattle.std.proofs.lemmas.List.{append-nil, take-append-drop, length-take-le, length-drop, get_or-drop, take_more}
 use Rattle.shape.specs.Column.{Front}
 use Rattle.shape.specs.Outcome.{Fault, CarriesTo, Then}
@@ -9,7 +9,7 @@ use Rattle.shape.proofs.Carry.{Starts, carry}
 use Rattle.shape.proofs.Columns.{front_shorter}
 
 -- two texts of the class C with other bytes after them
-pub parts_agree : (C : ℕ → Type 0) (t t' u u' : List ℕ) → All C t → All C t' → (C (get_or u 0 0) → ⊥) → 0 < length u → (C (get_or u' 0 0) → ⊥) → 0 < length u' → t ++ u ≡ t' ++ u' → (t ≡ t') × (u ≡ u')
+pub parts_agree : (C : ℕ → Type 0) (t t' u u' : List ℕ) → AllByRecursion C t → AllByRecursion C t' → (C (get_or u 0 0) → ⊥) → 0 < length u → (C (get_or u' 0 0) → ⊥) → 0 < length u' → t ++ u ≡ t' ++ u' → (t ≡ t') × (u ≡ u')
 parts_agree C [] [] u u' a a' s n s' n' e = (refl, e)
 parts_agree C [] (x ∷ t') u u' a a' s n s' n' e = absurd (s (rw e a'.0))
 parts_agree C (x ∷ t) [] u u' a a' s n s' n' e = absurd (s' (rw (← e) a.0))
@@ -20,7 +20,7 @@ parts_agree C (x ∷ t) (y ∷ t') u u' a a' s n s' n' e =
     (ap₂ ◌∷◌ h r.0, r.1)
 
 -- A text that begins a token, and with the byte after it none, is the token of any writing that goes on so.
-munch_agrees : (C : ℕ → Type 0) (T : List ℕ → Type 0) (t t' : List ℕ) (b : ℕ) (r u' : List ℕ) → All C t → T t' → (Front T (t ++ b ∷ []) → ⊥) →
+munch_agrees : (C : ℕ → Type 0) (T : List ℕ → Type 0) (t t' : List ℕ) (b : ℕ) (r u' : List ℕ) → AllByRecursion C t → T t' → (Front T (t ++ b ∷ []) → ⊥) →
     (C (get_or u' 0 0) → ⊥) → 0 < length u' → t ++ b ∷ r ≡ t' ++ u' → (t ≡ t') × (b ∷ r ≡ u')
 munch_agrees C T [] [] b r u' a g s s' n' e = (refl, e)
 munch_agrees C T [] (x ∷ t') b r u' a g s s' n' e = let h : x ≡ b = cc in absurd (s (t', rw (← h) g))
@@ -31,7 +31,7 @@ munch_agrees C T (x ∷ t) (y ∷ t') b r u' a g s s' n' e =
     let q = munch_agrees C (λ z. T (x ∷ z)) t t' b r u' a.1 (rw h g) s s' n' e' in
     (ap₂ ◌∷◌ h q.0, q.1)
 
-pub all_front : (C : ℕ → Type 0) (t u : List ℕ) → All C (t ++ u) → All C t
+pub all_front : (C : ℕ → Type 0) (t u : List ℕ) → AllByRecursion C (t ++ u) → AllByRecursion C t
 all_front C [] u a = tt
 all_front C (x ∷ t) u a = (a.0, all_front C t u a.1)
 
@@ -49,12 +49,12 @@ pub munch_longest : (T : List ℕ → Type 0) (s : List ℕ) (n : ℕ) → Munch
 munch_longest T s n u m l fits g = u.stops (omega arith) (front_shorter T s (n + 1) m (omega arith) ([], rw append-nil g))
 
 -- C holds the bytes of the tokens, and what follows in H begins with another
-module _ (C : ℕ → Type 0) (T H : List ℕ → Type 0) (class : (t : List ℕ) → T t → All C t) (ends : (v : List ℕ) → H v → (0 < length v) × (C (get_or v 0 0) → ⊥))
+module _ (C : ℕ → Type 0) (T H : List ℕ → Type 0) (class : (t : List ℕ) → T t → AllByRecursion C t) (ends : (v : List ℕ) → H v → (0 < length v) × (C (get_or v 0 0) → ⊥))
     (s : List ℕ) (n : ℕ) (m : Munch T s n) where
   long : length (take n s) ≡ n
   long = length-take-le n s m.fits
 
-  bytes : All C (take n s)
+  bytes : AllByRecursion C (take n s)
   bytes = all_front C (take n s) m.begins.0 (class _ m.begins.1)
 
   -- the token that any other writing has here is this one

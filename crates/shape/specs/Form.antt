@@ -1,6 +1,6 @@
 -- Forms, how they are written, and which of them are well shaped.
 use Rattle.std.specs.Prelude.{◌≡◌, ℕ, ◌-◌, ◌<◌, ◌≤◌, ◌⊎◌, List, [], ◌∷◌, ◌++◌, length, ◌≢◌, slice_index}
-use Rattle.std.specs.List.{AllByRecursion as All}
+use Rattle.std.specs.List.{AllByRecursion}
 use Rattle.shape.specs.Limits.{most_letters, most_digits, deepest}
 
 -- A form is a word and its arguments; an argument is a number, by its text, or again a form.
@@ -32,11 +32,11 @@ Digit b = (48 ≤ b) × (b ≤ 57)
 
 -- small letters, at least one
 abbrev pub Word : List ℕ → Type 0
-Word w = (0 < length w) × (length w ≤ most_letters) × All Letter w
+Word w = (0 < length w) × (length w ≤ most_letters) × AllByRecursion Letter w
 
 -- digits, at least one, of which a leading zero is the only one
 abbrev pub Unsigned : List ℕ → Type 0
-Unsigned t = (0 < length t) × (length t ≤ most_digits) × All Digit t × (slice_index t 0 ≡ 48 → length t ≡ 1)
+Unsigned t = (0 < length t) × (length t ≤ most_digits) × AllByRecursion Digit t × (slice_index t 0 ≡ 48 → length t ≡ 1)
 
 -- such digits, or "-" and such digits that do not begin with a zero
 abbrev pub Number : List ℕ → Type 0

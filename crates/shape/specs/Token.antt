@@ -1,6 +1,6 @@
 -- Tokens: texts of a set T that a reader takes as one piece, as far as the bytes s go.
 use Rattle.std.specs.Prelude.{◌≡◌, ℕ, ◌+◌, ◌<◌, ◌≤◌, cond, List, length, take, Ok, Err, Result, ◌==◌, ◌≢◌, slice_index}
-use Rattle.std.specs.List.{AllByRecursion as All}
+use Rattle.std.specs.List.{AllByRecursion}
 use Rattle.shape.specs.Column.{Front}
 use Rattle.shape.specs.Limits.{most_digits}
 
@@ -19,7 +19,7 @@ Token T s (Err n) = Munch T s n × (T (take n s) → ⊥)
 pub record Runs (C : ℕ → Type 0) (most : ℕ) (s : List ℕ) (n : ℕ) : Type 0 where
   pub fits : n ≤ length s
   pub few : n ≤ most
-  pub all : All C (take n s)
+  pub all : AllByRecursion C (take n s)
   pub stops : n < most → n < length s → C (slice_index s n) → ⊥
 
 -- the first n bytes of s are those of p, and the next are not, if both have one

@@ -1,7 +1,7 @@
 -- A sealed line of a sheet is a sealed line, and says which text it was.
 use Rattle.std.proofs.Common.{◌≡◌, ℕ, zero, suc, ◌<◌, ◌≤◌, true, List, [], ◌∷◌, length, refl, ap, ◌∙◌}
 use lib.Bits.{xor_lt}
-use Rattle.std.specs.List.{AllByRecursion as All}
+use Rattle.std.specs.List.{AllByRecursion}
 use Rattle.std.proofs.lemmas.Bool.{le-leb}
 use Rattle.hash.specs.declared.Strength.{Strength}
 use Rattle.hash.specs.declared.Strength.TheVariants.{Lo, Mid, Hi}
@@ -16,11 +16,11 @@ use Rattle.sealed.specs.Limits.{siv_length, text_length}
 use Rattle.sealed.specs.Line.{Parts, LawfulHeader, Lawful, OneReading, header_of}
 use Rattle.sheet.specs.Sheet.{nonce_of, sealed_parts, sheet_line}
 
-run_bytes : (g : ℕ → ℕ) → ((p : ℕ) → g p < 256) → (p n : ℕ) → All Byte (run g p n)
+run_bytes : (g : ℕ → ℕ) → ((p : ℕ) → g p < 256) → (p n : ℕ) → AllByRecursion Byte (run g p n)
 run_bytes g b p zero = tt
 run_bytes g b p (suc n) = (b p, run_bytes g b (suc p) n)
 
-masked_bytes : (g : ℕ → ℕ) → ((p : ℕ) → g p < 256) → (p : ℕ) (xs : List ℕ) → All Byte xs → All Byte (masked g p xs)
+masked_bytes : (g : ℕ → ℕ) → ((p : ℕ) → g p < 256) → (p : ℕ) (xs : List ℕ) → AllByRecursion Byte xs → AllByRecursion Byte (masked g p xs)
 masked_bytes g b p [] a = tt
 masked_bytes g b p (x ∷ xs) a = (xor_lt 8 x (g p) a.0 (b p), masked_bytes g b (suc p) xs a.1)
 
@@ -31,7 +31,7 @@ siv_fits Hi = refl
 
 -- a text that can be sealed into a line
 abbrev pub Fits : List ℕ → Type 0
-Fits text = (length text ≤ 16384) × All Byte text
+Fits text = (length text ≤ 16384) × AllByRecursion Byte text
 
 module _ (f : StreamOf) (bytes : (seed nonce : List ℕ) (place : ℕ) → f.byte seed nonce place < 256) (s : Strength) where
   hs1_bytes : (key nonce input : List ℕ) (p : ℕ) → hs1 f s key nonce input p < 256
@@ -42,7 +42,7 @@ module _ (f : StreamOf) (bytes : (seed nonce : List ℕ) (place : ℕ) → f.byt
   unfolding siv
   length_siv key nonce header text = length_run (hs1 f s key nonce _) 0 (strength.siv_length s)
 
-  siv_bytes : (key nonce header text : List ℕ) → All Byte (siv f s key nonce header text)
+  siv_bytes : (key nonce header text : List ℕ) → AllByRecursion Byte (siv f s key nonce header text)
   unfolding siv
   siv_bytes key nonce header text = run_bytes (hs1 f s key nonce _) (hs1_bytes key nonce _) 0 (strength.siv_length s)
 
@@ -50,7 +50,7 @@ module _ (f : StreamOf) (bytes : (seed nonce : List ℕ) (place : ℕ) → f.byt
   unfolding ciphertext under
   length_ciphertext key nonce header text = length_masked (hs1 f s key nonce _) 64 text
 
-  ciphertext_bytes : (key nonce header text : List ℕ) → All Byte text → All Byte (ciphertext f s key nonce header text)
+  ciphertext_bytes : (key nonce header text : List ℕ) → AllByRecursion Byte text → AllByRecursion Byte (ciphertext f s key nonce header text)
   unfolding ciphertext under
   ciphertext_bytes key nonce header text a = masked_bytes (hs1 f s key nonce _) (hs1_bytes key nonce _) 64 text a
 

@@ -1,6 +1,6 @@
 -- Lists of lawful items of any kind: what they seal to tells slot, serial and list.
 use Rattle.std.proofs.Common.{◌≡◌, ℕ, ◌<◌, ◌≤◌, Bool, true, List, length, Some, Option, sym, ◌∙◌, arith}
-use Rattle.std.specs.List.{flat_map, AllByRecursion as All}
+use Rattle.std.specs.List.{flat_map, AllByRecursion}
 use Rattle.hash.specs.declared.Strength.{Strength}
 use Rattle.stream.specs.Stream.{StreamOf}
 use Rattle.shape.specs.Form.{WellShaped}
@@ -22,7 +22,7 @@ module _ {X : Type 0} (f : StreamOf) (bytes : (seed nonce : List ℕ) (place : �
   abbrev pub Ready : List ℕ → Type 0
   Ready = lines.Fits
 
-  pub ready : (xs : List X) → All (λ x. lawful x ≡ true) xs → length (flat_map line xs) ≤ 16384 → Ready (flat_map line xs)
+  pub ready : (xs : List X) → AllByRecursion (λ x. lawful x ≡ true) xs → length (flat_map line xs) ≤ 16384 → Ready (flat_map line xs)
   ready xs a h = (h, text_bytes lawful line shaped xs a)
 
   pub head : (a m : ℕ) → a < slot_count → 0 < m → m < serial_end → LawfulHeader a number m
@@ -33,7 +33,7 @@ module _ {X : Type 0} (f : StreamOf) (bytes : (seed nonce : List ℕ) (place : �
   apart a t m n k j x y ha ht hm hm' hn hn' rx ry e =
       lines.apart f bytes s one_reading number a t m n k j x y (head a m ha hm hm') (head t n ht hn hn') rx ry e
 
-  pub one_list : (a m : ℕ) (k : List ℕ) (xs ys : List X) → a < slot_count → 0 < m → m < serial_end → All (λ x. lawful x ≡ true) xs → All (λ x. lawful x ≡ true) ys → Ready (flat_map line xs) → Ready (flat_map line ys) → sheet_line f s a number m k (flat_map line xs) ≡ sheet_line f s a number m k (flat_map line ys) → xs ≡ ys
+  pub one_list : (a m : ℕ) (k : List ℕ) (xs ys : List X) → a < slot_count → 0 < m → m < serial_end → AllByRecursion (λ x. lawful x ≡ true) xs → AllByRecursion (λ x. lawful x ≡ true) ys → Ready (flat_map line xs) → Ready (flat_map line ys) → sheet_line f s a number m k (flat_map line xs) ≡ sheet_line f s a number m k (flat_map line ys) → xs ≡ ys
   one_list a m k xs ys ha hm hm' lx ly rx ry e =
       same_text reading lawful line shaped found sound xs ys lx ly
       (lines.same_text f bytes s one_reading a number m k (flat_map line xs) (flat_map line ys) (head a m ha hm hm') rx ry e)

@@ -1,7 +1,7 @@
 use Rattle.std.proofs.Common.{◌≡◌, true, sym, ap, ◌∙◌, subst, arith, lit≤}
 use Rattle.sealed.specs.Hex.{Byte, hex_of}
 use Rattle.book.specs.Book.{good_key}
-use Rattle.std.specs.List.{AllByRecursion as All}
+use Rattle.std.specs.List.{AllByRecursion}
 use Rattle.phrases.proofs.Inner.{no_inner, inner_facts, key_line, no_digits, key_bytes, no_key}
 use Rattle.phrases.proofs.given.read_key_line.Goals as goal
 use Rattle.phrases.proofs.given.read_key_line.Goals.{then-inner-lt2-via-then-inner-lt2, then-inner-lt2-via-else-inner-lt2+then-inner-ne32, then-slot-lt48-via-then-slot-lt48, then-slot-lt48-via-else-slot-lt48+then-slot-gt55}
@@ -34,4 +34,4 @@ returns c =
     let b = key_bytes c.in-Some.inner.now _ _ c.in-Some-read_hex.len c.in-Some-read_hex.ensures in
     let k = c.in-Some-new.ensures in
     let is = sym (k.1 ∙ b.3) in
-    key_line _ _ c.in-Some.ensures _ _ (omega (arith, c.if-inner-lt2.false)) (omega (arith, c.if-slot-lt48.false)) c.if-inner-ne32.false (b.2 ∙ ap hex_of is) (omega (arith, c.if-slot-gt55.false)) (subst (All Byte) is b.1) (subst (λ x. good_key x ≡ true) (sym k.1) k.0)
+    key_line _ _ c.in-Some.ensures _ _ (omega (arith, c.if-inner-lt2.false)) (omega (arith, c.if-slot-lt48.false)) c.if-inner-ne32.false (b.2 ∙ ap hex_of is) (omega (arith, c.if-slot-gt55.false)) (subst (AllByRecursion Byte) is b.1) (subst (λ x. good_key x ≡ true) (sym k.1) k.0)

@@ -1,5 +1,5 @@
 use Rattle.std.proofs.Common.{sym, refl, subst}
-use Rattle.std.specs.List.{AllByRecursion as All}
+use Rattle.std.specs.List.{AllByRecursion}
 use Rattle.std.proofs.ByRecursion.{All-more, All-get_or}
 use Rattle.std.proofs.lemmas.List.{take_all}
 use Rattle.std.proofs.lemmas.Bool.{true≢false}
@@ -14,4 +14,4 @@ pub loop-b-preserved : goal.loop-b-preserved
 loop-b-preserved c = All-more HexDigit c.args.digits.now c.loop-b.b-index 0 c.loop-b-test.true c.loop-b.invariant (c.is_hex.ensures.0 c.if-not-is_hex.false)
 
 pub returns : goal.returns
-returns c = (λ e. subst (All HexDigit) (take_all _ _ c.loop-b-test.false) c.loop-b.invariant, λ all. refl)
+returns c = (λ e. subst (AllByRecursion HexDigit) (take_all _ _ c.loop-b-test.false) c.loop-b.invariant, λ all. refl)

@@ -1,5 +1,5 @@
 use Rattle.std.proofs.Common.{◌++◌, drop, sym, refl, ap, ◌∙◌, subst, arith}
-use Rattle.std.specs.List.{AllByRecursion as All}
+use Rattle.std.specs.List.{AllByRecursion}
 use Rattle.std.proofs.lemmas.Bool.Decides.{not_from_Decides}
 use Rattle.sealed.specs.Hex.{HexDigit, bytes_of}
 use Rattle.sealed.proofs.Hexes.{bytes_small, hex_digits}
@@ -16,7 +16,7 @@ returns-then-len-ne0 c = (
 )
 
 pub returns-then-not-all_hex : goal.returns-then-not-all_hex
-returns-then-not-all_hex c = ((λ bytes small room e. not_from_Decides _ c.all_hex.ensures c.if-not-all_hex.true (subst (All HexDigit) (sym e) (hex_digits bytes small))), refl)
+returns-then-not-all_hex c = ((λ bytes small room e. not_from_Decides _ c.all_hex.ensures c.if-not-all_hex.true (subst (AllByRecursion HexDigit) (sym e) (hex_digits bytes small))), refl)
 
 pub put_bytes-requires : goal.put_bytes-requires
 put_bytes-requires c = omega (arith, (whole_hex c.args.text.now c.if-len-ne0.false (c.all_hex.ensures.0 c.if-not-all_hex.false)).1, c.if-out-len.false)

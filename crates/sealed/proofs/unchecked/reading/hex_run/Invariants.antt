@@ -1,10 +1,10 @@
 use Rattle.std.proofs.Common.{◌-◌, ◌≤◌, length, take}
-use Rattle.std.specs.List.{AllByRecursion as All}
+use Rattle.std.specs.List.{AllByRecursion}
 use Rattle.sealed.specs.Hex.{HexDigit}
 use Rattle.sealed.proofs.unchecked.reading.hex_run.Given as goal
 
 abbrev pub invariant-loop-n : goal.invariant-loop-n
-invariant-loop-n l = (l.n ≤ length l.s) × (l.n ≤ l.most) × All HexDigit (take l.n l.s)
+invariant-loop-n l = (l.n ≤ length l.s) × (l.n ≤ l.most) × AllByRecursion HexDigit (take l.n l.s)
 
 abbrev pub decreases-loop-n : goal.decreases-loop-n
 decreases-loop-n l = l.most - l.n
