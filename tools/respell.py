@@ -134,6 +134,13 @@ def all_by_recursion(text):
     return re.sub(r"(?<![\w'.-])All(?![\w'-])", "AllByRecursion", text)
 
 
+def alias_names(text):
+    """A name that a file gives to an import, as `suite as suiteOf`: snake case too."""
+    for m in set(re.findall(r"\b\w+ as ([a-z]+[A-Z]\w*)(?=[,}])", text)):
+        text = re.sub(r"(?<![\w'-])%s(?![\w'-])" % m, snake(m), text)
+    return text
+
+
 def main():
     if len(sys.argv) > 1:
         os.chdir(sys.argv[1])
@@ -154,6 +161,8 @@ def main():
         write(path, by_line(read(path), table, "//", outside_strings))
     for path in antt() + sorted(glob.glob("crates/*/src/**/*.rt", recursive=True)):
         write(path, all_by_recursion(read(path)))
+    for path in sorted(glob.glob("crates/*/src/**/*.rt", recursive=True)):
+        write(path, alias_names(read(path)))
     for path in sorted(glob.glob("crates/*/must-fail/*.edit") + glob.glob("misuse/*/*.edit")):
         write(path, outside_strings(read(path), table))
     for path in ["README.md"] + sorted(glob.glob("docs/*.md")):

@@ -4,7 +4,7 @@
 #![tactic(auto)]
 
 ghost use Rattle.std.specs.Prelude.{◌≡◌};
-ghost use Rattle.field.specs.Field.{xtime, product, inverse as inverseOf, Inverse, affine as affineOf, sbox};
+ghost use Rattle.field.specs.Field.{xtime, product, inverse as inverse_of, Inverse, affine as affine_of, sbox};
 
 // The product with x.
 fn double(a: u8) -> u8
@@ -32,7 +32,7 @@ pub fn multiply(a: u8, b: u8) -> u8
 
 // The inverse of an element, and 0 for 0.
 pub fn inverse(a: u8) -> u8
-    ensures value { result ≡ inverseOf a }
+    ensures value { result ≡ inverse_of a }
     ensures inverts { Inverse a result }
 {
     let a2 = multiply(a, a);
@@ -49,7 +49,7 @@ pub fn inverse(a: u8) -> u8
 
 // The affine map of the S-box.
 pub fn affine(b: u8) -> u8
-    ensures { result ≡ affineOf b }
+    ensures { result ≡ affine_of b }
 {
     b ^ b.rotate_left(1) ^ b.rotate_left(2) ^ b.rotate_left(3) ^ b.rotate_left(4) ^ 0x63
 }

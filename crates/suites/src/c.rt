@@ -1,7 +1,7 @@
 //! The calls that a C program makes. Each slice is a pointer and a length
 //! there; include/koqarpi.h declares them and says what they need.
 
-ghost use Rattle.suites.specs.Suites.{suite as suiteOf};
+ghost use Rattle.suites.specs.Suites.{suite as suite_of};
 ghost use Rattle.std.specs.Prelude.{◌≡◌};
 ghost use Rattle.suites.specs.Calls.{SealsBy, OpensBy, code as code_of, Coded};
 
@@ -29,7 +29,7 @@ pub extern "C" fn koqarpi_seal(
     siv_out: &mut [u8],
     out: &mut [u8],
 ) -> u8
-    ensures { Coded (SealsBy (suiteOf suite) key.now nonce.now header.now text.now siv_out.old siv_out.new out.old out.new) result }
+    ensures { Coded (SealsBy (suite_of suite) key.now nonce.now header.now text.now siv_out.old siv_out.new out.old out.new) result }
 {
     code(seal_suite(suite, key, nonce, header, text, siv_out, out))
 }
@@ -45,7 +45,7 @@ pub extern "C" fn koqarpi_open(
     ciphertext: &[u8],
     out: &mut [u8],
 ) -> u8
-    ensures { Coded (OpensBy (suiteOf suite) key.now nonce.now header.now siv.now ciphertext.now out.old out.new) result }
+    ensures { Coded (OpensBy (suite_of suite) key.now nonce.now header.now siv.now ciphertext.now out.old out.new) result }
 {
     code(open_suite(suite, key, nonce, header, siv, ciphertext, out))
 }

@@ -4,7 +4,7 @@
 
 #![tactic(auto)]
 
-ghost use Rattle.suites.specs.Suites.{suite as suiteOf};
+ghost use Rattle.suites.specs.Suites.{suite as suite_of};
 ghost use Rattle.suites.specs.Calls.{SealsBy, OpensBy, Coded};
 
 // Seals a text by the suite of that number.
@@ -18,7 +18,7 @@ pub extern "C" fn koqarpi_seal(
     siv_out: &mut [u8],
     out: &mut [u8],
 ) -> u8
-    ensures { Coded (SealsBy (suiteOf suite) key.now nonce.now header.now text.now siv_out.old siv_out.new out.old out.new) result }
+    ensures { Coded (SealsBy (suite_of suite) key.now nonce.now header.now text.now siv_out.old siv_out.new out.old out.new) result }
 {
     suites::koqarpi_seal(suite, key, nonce, header, text, siv_out, out)
 }
@@ -34,7 +34,7 @@ pub extern "C" fn koqarpi_open(
     ciphertext: &[u8],
     out: &mut [u8],
 ) -> u8
-    ensures { Coded (OpensBy (suiteOf suite) key.now nonce.now header.now siv.now ciphertext.now out.old out.new) result }
+    ensures { Coded (OpensBy (suite_of suite) key.now nonce.now header.now siv.now ciphertext.now out.old out.new) result }
 {
     suites::koqarpi_open(suite, key, nonce, header, siv, ciphertext, out)
 }
