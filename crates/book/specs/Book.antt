@@ -4,7 +4,7 @@ use Rattle.std.specs.Prelude.{◌≡◌, ℕ, ◌+◌, ◌<◌, ◌≤◌, Bool,
 use Rattle.std.specs.List.{flat_map, AllByRecursion}
 
 -- The limits: slots of a box, bytes of a key, items and bytes of a sheet. The
--- serials of sheets are those above 0 and below serial-end.
+-- serials of sheets are those above 0 and below serial_end.
 abbrev pub slot_count : ℕ
 slot_count = 8
 
