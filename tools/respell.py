@@ -11,6 +11,9 @@ steps of a proof, stay, and so do functions of src/, strings, inputs and outputs
 `All` by recursion has the library's name for it, AllByRecursion: no import may stand under the
 name of another word of the library.
 
+One word for one thing where contracts and definitions speak of lists: slice_index_or and slice_set,
+and not get_or and set as well, which proofs use.
+
 Crate `hash` defined a word `result`, which now names what a function returns: it is `result_of`
 here, and the clauses of that crate lose their λ.
 """
@@ -141,6 +144,23 @@ def alias_names(text):
     return text
 
 
+def list_words(path, text):
+    """In specs/ and src/, get_or and set (in specs/ alone) of the library are slice_index_or and slice_set."""
+    words = {"get_or": "slice_index_or"}
+    if "/specs/" in path:
+        words["set"] = "slice_set"
+    words = {a: b for a, b in words.items() if re.search(r"Prelude\.\{[^}]*(?<![\w'-])%s(?![\w'-])" % a, text)}
+    if not words:
+        return text
+    text = by_line(text, words, "//" if path.endswith(".rt") else "--", turned)
+
+    def once(m):
+        names = [x.strip() for x in m.group(2).split(",")]
+        return m.group(1) + ", ".join(dict.fromkeys(names)) + "}"
+
+    return re.sub(r"(Prelude\.\{)([^}]*)\}", once, text)
+
+
 def main():
     if len(sys.argv) > 1:
         os.chdir(sys.argv[1])
@@ -163,12 +183,12 @@ def main():
         write(path, all_by_recursion(read(path)))
     for path in sorted(glob.glob("crates/*/src/**/*.rt", recursive=True)):
         write(path, alias_names(read(path)))
+    for path in sorted(glob.glob("crates/*/specs/*.antt") + glob.glob("crates/*/src/**/*.rt", recursive=True)):
+        write(path, list_words(path, read(path)))
     for path in sorted(glob.glob("crates/*/must-fail/*.edit") + glob.glob("misuse/*/*.edit")):
         write(path, outside_strings(read(path), table))
     for path in ["README.md"] + sorted(glob.glob("docs/*.md")):
         write(path, backquoted(read(path), table))
-    with open("/tmp/respelt.txt", "w") as f:
-        f.write("".join("%s %s\n" % x for x in sorted(table.items())))
 
 
 if __name__ == "__main__":

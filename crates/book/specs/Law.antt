@@ -1,5 +1,5 @@
 -- The law of an opening, by the book alone.
-use Rattle.std.specs.Prelude.{◌≡◌, ℕ, ◌<◌, ◌≤◌, Bool, true, List, ◌++◌, length, get_or, drop, is_ok, Some, Ok, Result, slice_index_or}
+use Rattle.std.specs.Prelude.{◌≡◌, ℕ, ◌<◌, ◌≤◌, Bool, true, List, ◌++◌, length, slice_index_or, drop, is_ok, Some, Ok, Result}
 use Rattle.std.specs.List.{flat_map, AllByRecursion}
 use Rattle.book.specs.declared.Slot.{Slot}
 use Rattle.book.specs.Keys.{key_of, empty}
@@ -49,7 +49,7 @@ module _ {X : Type 0} (seal : Sealing) (lawful : X → Bool) (line : X → List 
   -- What the box itself asks of a slot as it has it.
   pub record Passes (slots : List Slot) (l : List ℕ) (work room s m : ℕ) (key : List ℕ) (items : List X) : Type 0 where
     pub key_is : key_of (slice_index_or slots s empty) ≡ Some key
-    pub later : (get_or slots s empty).last < m
+    pub later : (slice_index_or slots s empty).last < m
     pub seals : Seals s m key l items
     pub space : length (flat_map line items) ≤ work
     pub place : length items ≤ room

@@ -4,7 +4,7 @@
 
 mod key;
 
-ghost use Rattle.std.specs.Prelude.{◌≡◌, ℕ, ◌<◌, ◌≤◌, true, false, ◌&&◌, [], ◌∷◌, length, get_or, if◌then◌else◌, Some, None, MatchOption, slice_index_or};
+ghost use Rattle.std.specs.Prelude.{◌≡◌, ℕ, ◌<◌, ◌≤◌, true, false, ◌&&◌, [], ◌∷◌, length, slice_index_or, if◌then◌else◌, Some, None, MatchOption};
 ghost use Rattle.book.specs.Book.{Sealing, setting, clearing, asking, hits, good_key};
 ghost use Rattle.book.specs.Keys.{bytes_of, key_of, empty};
 ghost use Rattle.book.specs.Stands.{Stands, Noted};
@@ -93,7 +93,7 @@ impl Table {
     pub fn set_key(&mut self, slot: u8, key: &[u8]) -> Result<(), Refusal>
         ensures answer { result ≡ answer (set_checks slot key.now) }
         ensures key { (s : ℕ) → key_of (slice_index_or self.new.slots s empty) ≡ (if good_key key.now && hits slot s then Some key.now else key_of (slice_index_or self.old.slots s empty)) }
-        ensures last { (s : ℕ) → (get_or self.new.slots s empty).last ≡ (if good_key key.now && hits slot s then 0 else (get_or self.old.slots s empty).last) }
+        ensures last { (s : ℕ) → (slice_index_or self.new.slots s empty).last ≡ (if good_key key.now && hits slot s then 0 else (slice_index_or self.old.slots s empty).last) }
         ensures noted { (seal : Sealing) → Noted seal self.old.slots self.new.slots (setting slot key.now ∷ []) }
     {
         if slot >= SLOTS {

@@ -1,6 +1,6 @@
 -- ChaCha as in RFC 8439, for any number of rounds. Bytes and 32-bit words are
 -- natural numbers, and the state is the list of its sixteen words.
-use Rattle.std.specs.Prelude.{ℕ, zero, suc, ◌+◌, ◌-◌, ◌*◌, ◌/◌, ◌%◌, ◌^◌, List, [], ◌∷◌, ◌++◌, set, bit_or, bit_xor, slice_index, slice_set}
+use Rattle.std.specs.Prelude.{ℕ, zero, suc, ◌+◌, ◌-◌, ◌*◌, ◌/◌, ◌%◌, ◌^◌, List, [], ◌∷◌, ◌++◌, slice_set, bit_or, bit_xor, slice_index}
 use Rattle.std.specs.Simd.Lanes.{zip2}
 
 -- a + b modulo 2^32
@@ -15,7 +15,7 @@ rotl n x = bit_or ((x * 2 ^ (n % 32)) % 2 ^ 32) (x / 2 ^ ((32 - n % 32) % 32))
 -- (section 2.1), where a, b and d are indices.
 unfoldable pub line : (a b d n : ℕ) → List ℕ → List ℕ
 line a b d n s =
-    let t = set s a (add32 (slice_index s a) (slice_index s b)) in
+    let t = slice_set s a (add32 (slice_index s a) (slice_index s b)) in
     slice_set t d (rotl n (bit_xor (slice_index t d) (slice_index t a)))
 
 -- QUARTERROUND(a, b, c, d) on the state (section 2.2).

@@ -1,5 +1,5 @@
 -- Words read from bytes, and words written as bytes.
-use Rattle.std.specs.Prelude.{◌≡◌, ℕ, zero, suc, ◌+◌, ◌*◌, ◌/◌, ◌%◌, ◌<◌, ◌≤◌, List, [], ◌∷◌, ◌++◌, length, take, drop, set, slice_index, slice_index_or, slice_set, refl}
+use Rattle.std.specs.Prelude.{◌≡◌, ℕ, zero, suc, ◌+◌, ◌*◌, ◌/◌, ◌%◌, ◌<◌, ◌≤◌, List, [], ◌∷◌, ◌++◌, length, take, drop, slice_set, slice_index, slice_index_or, refl}
 use Rattle.std.proofs.Common.{sym, ap, ◌∙◌, append_assoc, arith}
 use Rattle.std.proofs.lemmas.List.{drop_all, drop-drop, take_more, length-drop, length-take-le}
 use Rattle.stream.proofs.Fours.{drop_four, set_four}
@@ -31,7 +31,7 @@ write_more s zs out j a b c d lt all inv is =
     let l : length p ≡ 4 * j = length_serialised (take j s) ∙ ap (λ k. 4 * k) (length-take-le j s (omega arith)) in
     let four : 4 ≤ length (drop (4 * j) zs) = omega (arith, length-drop (4 * j) zs) in
     let more : serialised (take (j + 1) s) ≡ p ++ bytes w = ap serialised (take_more s j 0 lt) ∙ serialised_append (take j s) (w ∷ []) in
-    ap (λ o. set (slice_set (slice_set (slice_set o (4 * j) a) (4 * j + 1) b) (4 * j + 2) c) (4 * j + 3) d) inv
+    ap (λ o. slice_set (slice_set (slice_set (slice_set o (4 * j) a) (4 * j + 1) b) (4 * j + 2) c) (4 * j + 3) d) inv
     ∙ set_four p (drop (4 * j) zs) (4 * j) a b c d l four
     ∙ ap (λ bs. p ++ (bs ++ drop 4 (drop (4 * j) zs))) is
     ∙ sym (append_assoc p (bytes w) (drop 4 (drop (4 * j) zs)))

@@ -1,5 +1,6 @@
 //! What the program that opens sheets answers, and the one that seals them.
-//! What they print comes from here. `docs/PROGRAMS.md` shows them in use.
+//! What they print comes from here. So far: a line given to the box, and what
+//! is printed of its answer.
 
 #![tactic(auto)]
 

@@ -1,5 +1,5 @@
 -- What opening a sheet answers, check by check.
-use Rattle.std.specs.Prelude.{◌≡◌, ℕ, Bool, false, cond, not, ◌&&◌, ◌⊎◌, List, [], length, get_or, Some, None, Err, Option, Result, ◌==◌, nat_lt, slice_index_or}
+use Rattle.std.specs.Prelude.{◌≡◌, ℕ, Bool, false, cond, not, ◌&&◌, ◌⊎◌, List, [], length, slice_index_or, Some, None, Err, Option, Result, ◌==◌, nat_lt}
 use Rattle.std.specs.Option.{unwrap_or}
 use Rattle.refusal.specs.declared.Refusal.{Refusal}
 use Rattle.refusal.specs.declared.Refusal.TheVariants.{OtherKind, EmptySlot, StaleSerial, SivLength, ShortWork, WrongSiv, NoSealedLine}
@@ -55,4 +55,4 @@ LineAnswered f s slots number work reading l before after r =
 -- serial for its last, under the same key, and the others are as they were.
 pub record SlotsAfter (l : List ℕ) (before after : List Slot) (opened : Bool) : Type 0 where
   pub refused : opened ≡ false → (s : ℕ) → slice_index_or after s empty ≡ slice_index_or before s empty
-  pub granted : (p : Parts) → Lawful p → l ≡ sealed_line p → (s : ℕ) → slice_index_or after s empty ≡ cond (opened && hits p.slot s) (record { key = (get_or before p.slot empty).key; last = p.serial }) (slice_index_or before s empty)
+  pub granted : (p : Parts) → Lawful p → l ≡ sealed_line p → (s : ℕ) → slice_index_or after s empty ≡ cond (opened && hits p.slot s) (record { key = (slice_index_or before p.slot empty).key; last = p.serial }) (slice_index_or before s empty)

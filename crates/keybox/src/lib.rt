@@ -4,7 +4,7 @@
 
 mod calls;
 
-ghost use Rattle.std.specs.Prelude.{◌≡◌, ℕ, ◌≤◌, ◌&&◌, List, [], ◌∷◌, length, get_or, replicate, is_ok, if◌then◌else◌, Some, MatchResult, slice_index_or};
+ghost use Rattle.std.specs.Prelude.{◌≡◌, ℕ, ◌≤◌, ◌&&◌, List, [], ◌∷◌, length, slice_index_or, replicate, is_ok, if◌then◌else◌, Some, MatchResult};
 ghost use Rattle.hash.specs.Strength.{siv_length};
 ghost use Rattle.hs1.specs.Seal.{opened};
 ghost use Rattle.hs1.specs.Calls.{OpenedThere};
@@ -109,7 +109,7 @@ impl<S: Stream> KeyBox<S> {
         ensures answer { result ≡ answer_of (set_checks slot key.now) }
         ensures kept { (self.new.stream ≡ self.old.stream) × (self.new.strength ≡ self.old.strength) }
         ensures key { (s : ℕ) → key_of (slice_index_or self.new.table.slots s empty) ≡ (if good_key key.now && hits slot s then Some key.now else key_of (slice_index_or self.old.table.slots s empty)) }
-        ensures last { (s : ℕ) → (get_or self.new.table.slots s empty).last ≡ (if good_key key.now && hits slot s then 0 else (get_or self.old.table.slots s empty).last) }
+        ensures last { (s : ℕ) → (slice_index_or self.new.table.slots s empty).last ≡ (if good_key key.now && hits slot s then 0 else (slice_index_or self.old.table.slots s empty).last) }
         ensures noted { (seal : Sealing) → Noted seal self.old.table.slots self.new.table.slots (setting slot key.now ∷ []) }
     {
         self.table.set_key(slot, key)
@@ -145,7 +145,7 @@ impl<S: Stream> KeyBox<S> {
     ) -> Result<usize, Refusal>
         ensures kept { (self.new.stream ≡ self.old.stream) × (self.new.strength ≡ self.old.strength) }
         ensures answer { (l : List ℕ) → ReadFrom l sheet.entry → Answered (first_checks self.old.strength (slice_index_or self.old.table.slots sheet.entry.slot empty) K.Kind.tag (length work.old) (parts_of sheet.entry)) (sheet_text (S.Stream.meaning self.old.stream) self.old.strength (slice_index_or self.old.table.slots sheet.entry.slot empty) (parts_of sheet.entry)) K.Kind.reading tray.old.items.now tray.new.items.now result }
-        ensures slots { (s : ℕ) → slice_index_or self.new.table.slots s empty ≡ (if is_ok result && hits sheet.entry.slot s then (record { key = (get_or self.old.table.slots sheet.entry.slot empty).key; last = sheet.entry.serial }) else slice_index_or self.old.table.slots s empty) }
+        ensures slots { (s : ℕ) → slice_index_or self.new.table.slots s empty ≡ (if is_ok result && hits sheet.entry.slot s then (record { key = (slice_index_or self.old.table.slots sheet.entry.slot empty).key; last = sheet.entry.serial }) else slice_index_or self.old.table.slots s empty) }
         ensures count { MatchResult result (λ n. tray.new.count ≡ n) (λ _. tray.new.count ≡ tray.old.count) }
         ensures lent { tray.new.items.ghost_name ≡ tray.old.items.ghost_name }
         ensures wiped { work.new ≡ replicate (length work.old) 0 }

@@ -1,5 +1,4 @@
 //! The lines that the programs take and print, beside sealed lines and items.
-//! `docs/PROGRAMS.md` shows them in use.
 
 #![tactic(auto)]
 

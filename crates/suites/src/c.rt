@@ -1,5 +1,6 @@
-//! The calls that a C program makes. Each slice is a pointer and a length
-//! there; include/koqarpi.h declares them and says what they need.
+//! The calls that a C program makes, which the static library `suites_c` hands
+//! on. Each slice is a pointer and a length there; include/koqarpi.h declares
+//! them and says what they need.
 
 ghost use Rattle.suites.specs.Suites.{suite as suite_of};
 ghost use Rattle.std.specs.Prelude.{◌≡◌};
