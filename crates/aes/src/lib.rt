@@ -5,30 +5,26 @@
 ghost use Rattle.std.specs.Prelude.{◌≡◌, ℕ, ◌+◌, ◌*◌, ◌/◌, ◌%◌, ◌<◌, ◌≤◌, ◌++◌, length, bit_xor};
 ghost use Rattle.std.specs.Simd.Lanes.{zip2};
 ghost use Rattle.aes.specs.Aes.{sub_bytes, shift_rows, mixed_byte, mix_columns, add_round_key, temp_byte, key_byte, expanded_key, encrypted, four_bytes, byte_under, aes_of};
+ghost use Rattle.stream.specs.Stream.{run};
 ghost use Rattle.std.proofs.Common.{rules};
 
 use field::{multiply, substitute};
 use refusal::Refusal;
-use stream::{Blocks, Stream, xor_blocks};
+use std::array;
+use stream::{Blocks, Stream, xor_blocks, xor_bytes};
 
 // Each byte of the state through the S-box.
-fn sub_bytes(s: &mut [u8; 16])
-    ensures { s.new ≡ sub_bytes s.old }
+fn sub_bytes(s: &[u8; 16]) -> [u8; 16]
+    ensures { result ≡ sub_bytes s.now }
 {
-    for i in 0..16 {
-        s[i] = substitute(s[i]);
-    }
+    s.map(substitute)
 }
 
 // Row r of the state moves to the left by r columns.
 fn shift_rows(s: &[u8; 16]) -> [u8; 16]
     ensures { result ≡ shift_rows s.now }
 {
-    let mut out = [0; 16];
-    for i in 0..16 {
-        out[i] = s[i % 4 + 4 * ((i / 4 + i % 4) % 4)];
-    }
-    out
+    array::from_fn(|i| s[i % 4 + 4 * ((i / 4 + i % 4) % 4)])
 }
 
 // A byte of the mixed state.
@@ -46,25 +42,8 @@ fn mixed(s: &[u8; 16], row: usize, column: usize) -> u8
 fn mix_columns(s: &[u8; 16]) -> [u8; 16]
     ensures { result ≡ mix_columns s.now }
 {
-    let mut out = [0; 16];
-    for i in 0..16 {
-        out[i] = mixed(s, i % 4, i / 4);
-    }
-    out
+    array::from_fn(|i| mixed(s, i % 4, i / 4))
 }
-
-// A round key, 16 bytes of the expanded key, added to the state.
-fn add_round_key(s: &mut [u8; 16], round_key: &[u8])
-    requires { length round_key.now ≡ 16 }
-    ensures { s.new ≡ zip2 bit_xor s.old round_key.now }
-{
-    for i in 0..16 {
-        s[i] ^= round_key[i];
-    }
-}
-
-// The round constants of the key expansion, the powers of x.
-const CONSTANTS: [u8; 7] = [1, 2, 4, 8, 16, 32, 64];
 
 // What is added to word i of the expanded key, its byte k.
 fn temp_byte(w: &[u8; 240], i: usize, k: usize) -> u8
@@ -73,7 +52,8 @@ fn temp_byte(w: &[u8; 240], i: usize, k: usize) -> u8
 {
     let before = 4 * (i - 1);
     if i % 8 == 0 {
-        let constant = if k == 0 { CONSTANTS[i / 8 - 1] } else { 0 };
+        // the round constant, a power of x
+        let constant = if k == 0 { 1 << (i / 8 - 1) } else { 0 };
         substitute(w[before + (k + 1) % 4]) ^ constant
     } else if i % 8 == 4 {
         substitute(w[before + k])
@@ -95,50 +75,42 @@ fn expand(key: &[u8; 32]) -> [u8; 240]
     ensures { result ≡ expanded_key key.now }
 {
     let mut w = [0; 240];
-    w[0..32].copy_from_slice(key);
+    w[..32].copy_from_slice(key);
+    // The number of a word decides how it is made.
     for i in 8..60 {
-        let a = key_byte(&w, i, 0);
-        let b = key_byte(&w, i, 1);
-        let c = key_byte(&w, i, 2);
-        let d = key_byte(&w, i, 3);
-        w[4 * i] = a;
-        w[4 * i + 1] = b;
-        w[4 * i + 2] = c;
-        w[4 * i + 3] = d;
+        let word: [u8; 4] = array::from_fn(|k| key_byte(&w, i, k));
+        w[4 * i..4 * i + 4].copy_from_slice(&word);
     }
     w
 }
 
 // A round, with 16 bytes of the expanded key.
-fn full_round(s: &mut [u8; 16], round_key: &[u8])
-    requires { length round_key.now ≡ 16 }
+fn full_round(s: &mut [u8; 16], round_key: &[u8; 16])
     ensures { s.new ≡ zip2 bit_xor (mix_columns (shift_rows (sub_bytes s.old))) round_key.now }
 {
-    sub_bytes(s);
-    *s = mix_columns(&shift_rows(s));
-    add_round_key(s, round_key);
+    *s = mix_columns(&shift_rows(&sub_bytes(s)));
+    xor_bytes(s, round_key);
 }
 
 // The last round, which mixes no columns.
-fn last_round(s: &mut [u8; 16], round_key: &[u8])
-    requires { length round_key.now ≡ 16 }
+fn last_round(s: &mut [u8; 16], round_key: &[u8; 16])
     ensures { s.new ≡ zip2 bit_xor (shift_rows (sub_bytes s.old)) round_key.now }
 {
-    sub_bytes(s);
-    *s = shift_rows(s);
-    add_round_key(s, round_key);
+    *s = shift_rows(&sub_bytes(s));
+    xor_bytes(s, round_key);
 }
 
 // A block encrypted under an expanded key.
 fn encrypt(expanded: &[u8; 240], block: &[u8; 16]) -> [u8; 16]
     ensures { result ≡ encrypted expanded.now block.now }
 {
+    let (round_keys, _) = expanded.as_chunks();
     let mut s = *block;
-    add_round_key(&mut s, &expanded[0..16]);
-    for n in 1..14 {
-        full_round(&mut s, &expanded[16 * n..16 * n + 16]);
+    xor_bytes(&mut s, &round_keys[0]);
+    for round_key in &round_keys[1..14] {
+        full_round(&mut s, round_key);
     }
-    last_round(&mut s, &expanded[224..240]);
+    last_round(&mut s, &round_keys[14]);
     s
 }
 
@@ -162,14 +134,20 @@ impl Ready {
     fn counted(&self, j: u64) -> [u8; 16]
         ensures { result ≡ self.now.nonce ++ four_bytes j }
     {
-        let n = self.nonce;
-        let a = ((j / 16_777_216) % 256) as u8;
-        let b = ((j / 65_536) % 256) as u8;
-        let c = ((j / 256) % 256) as u8;
-        let d = (j % 256) as u8;
-        let mut block = [0, 0, 0, 0, 0, 0, 0, 0, 0, 0, 0, 0, a, b, c, d];
-        block[0..12].copy_from_slice(&n);
+        let mut block = [0; 16];
+        block[..12].copy_from_slice(&self.nonce);
+        block[12..].copy_from_slice(&j.to_be_bytes()[4..]);
         block
+    }
+
+    // Part q of block `index` of 64 bytes: the bytes at 16 places.
+    fn part(&self, index: u32, q: u8) -> [u8; 16]
+        ensures { result ≡ run (byte_under self.now.expanded self.now.nonce) (64 * index + 16 * q) 16 }
+    {
+        encrypt(
+            &self.expanded,
+            &self.counted(4 * u64::from(index) + u64::from(q)),
+        )
     }
 }
 
@@ -177,13 +155,13 @@ impl Blocks for Ready {
     ghost byte = { λ s. byte_under s.expanded s.nonce };
 
     fn block(&self, index: u32) -> [u8; 64] {
+        let parts = [0, 1, 2, 3].map(
+            |q|
+                ensures { result ≡ run (byte_under self.entry.now.expanded self.entry.now.nonce) (64 * index + 16 * q) 16 }
+            { self.part(index, q) },
+        );
         let mut out = [0; 64];
-        let expanded = &self.expanded;
-        for q in 0..4usize {
-            let j = 4 * u64::from(index) + q as u64;
-            let block = encrypt(expanded, &self.counted(j));
-            out[16 * q..16 * q + 16].copy_from_slice(&block);
-        }
+        out.copy_from_slice(parts.as_flattened());
         out
     }
 }

@@ -22,6 +22,11 @@ chacha_of rounds = record { rounds = rounds; byte = byte_at (rounds / 2) }
 abbrev pub Known : (rounds : ℕ) → Type 0
 Known rounds = (rounds ≡ 8) ⊎ (rounds ≡ 12) ⊎ (rounds ≡ 20)
 
+-- What a round count is read as: the one that ChaCha has, and else a refusal.
+abbrev pub Counted : (rounds : ℕ) → Result Rounds Refusal → Type 0
+Counted rounds (Ok r) = Known rounds × (count r ≡ rounds)
+Counted rounds (Err why) = (Known rounds → ⊥) × (why ≡ UnknownSuite)
+
 -- What making a ChaCha answers: one with that round count where ChaCha has it,
 -- and else a refusal.
 abbrev pub Made : (rounds : ℕ) → Result ChaCha Refusal → Type 0

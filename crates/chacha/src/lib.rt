@@ -5,12 +5,13 @@
 ghost use Rattle.std.specs.Prelude.{◌≡◌, ℕ, ◌+◌, ◌*◌, ◌/◌, ◌%◌, ◌<◌, ◌≤◌, length, slice_index, slice_set};
 ghost use Rattle.std.specs.Simd.Lanes.{zip2};
 ghost use Rattle.chacha.specs.ChaCha.{line, quarter_round, double_round, mixed, start, serialised, add32, word_at, byte_at};
-ghost use Rattle.chacha.specs.Rounds.{count, chacha_of, Made};
+ghost use Rattle.chacha.specs.Rounds.{count, chacha_of, Counted, Made};
 ghost use Rattle.chacha.specs.ChaCha as SpecsChaCha;
 ghost use Rattle.chacha.specs.Words.{serialised_byte};
 ghost use Rattle.std.proofs.Common.{rules};
 
 use refusal::Refusal;
+use std::array;
 use stream::{Blocks, Stream, xor_blocks};
 
 // One line of a quarter round: a += b; d ^= a; d <<<= n.
@@ -46,12 +47,11 @@ fn double_round(s: &mut [u32; 16])
     quarter_round(s, 3, 4, 9, 14);
 }
 
-fn add_words(s: &mut [u32; 16], more: &[u32; 16])
-    ensures { s.new ≡ zip2 add32 s.old more.now }
+// Each word of one state added to that of the other.
+fn sums(s: &[u32; 16], more: &[u32; 16]) -> [u32; 16]
+    ensures { result ≡ zip2 add32 s.now more.now }
 {
-    for j in 0..16 {
-        s[j] = s[j].wrapping_add(more[j]);
-    }
+    array::from_fn(|j| s[j].wrapping_add(more[j]))
 }
 
 // The block function on words: the double rounds, then the start added again.
@@ -62,8 +62,7 @@ fn permute(start: &[u32; 16], doubles: u32) -> [u32; 16]
     for _i in 0..doubles {
         double_round(&mut s);
     }
-    add_words(&mut s, start);
-    s
+    sums(&s, start)
 }
 
 // The bytes of sixteen words, lowest byte first.
@@ -71,12 +70,9 @@ fn serialise(s: &[u32; 16]) -> [u8; 64]
     ensures { result ≡ serialised s.now }
 {
     let mut out = [0; 64];
-    for j in 0..16 {
-        let [a, b, c, d] = s[j].to_le_bytes();
-        out[4 * j] = a;
-        out[4 * j + 1] = b;
-        out[4 * j + 2] = c;
-        out[4 * j + 3] = d;
+    // By ranges: of what `chunks_exact_mut` lends, a proof loses what is written.
+    for (j, word) in s.iter().enumerate() {
+        out[4 * j..4 * j + 4].copy_from_slice(&word.to_le_bytes());
     }
     out
 }
@@ -86,7 +82,7 @@ fn word(bytes: &[u8], at: usize) -> u32
     requires { at + 4 ≤ length bytes.now }
     ensures { result ≡ word_at bytes.now at }
 {
-    u32::from_le_bytes([bytes[at], bytes[at + 1], bytes[at + 2], bytes[at + 3]])
+    u32::from_le_bytes(bytes[at..at + 4].try_into().unwrap())
 }
 
 // The state that the blocks for a seed and a nonce begin with, but for the
@@ -122,6 +118,33 @@ enum Rounds {
     Twenty,
 }
 
+impl TryFrom<u8> for Rounds {
+    type Error = Refusal;
+
+    ghost try_from_gives = { Counted };
+
+    fn try_from(rounds: u8) -> Result<Rounds, Refusal> {
+        match rounds {
+            8 => Ok(Rounds::Eight),
+            12 => Ok(Rounds::Twelve),
+            20 => Ok(Rounds::Twenty),
+            _ => Err(Refusal::UnknownSuite),
+        }
+    }
+}
+
+impl From<Rounds> for u8 {
+    ghost from_gives = { λ rounds n. n ≡ count rounds };
+
+    fn from(rounds: Rounds) -> u8 {
+        match rounds {
+            Rounds::Eight => 8,
+            Rounds::Twelve => 12,
+            Rounds::Twenty => 20,
+        }
+    }
+}
+
 // ChaCha with 8, 12 or 20 rounds: no value of the type has another count.
 #[derive(Clone, Copy)]
 pub struct ChaCha {
@@ -133,12 +156,7 @@ impl ChaCha {
     pub fn new(rounds: u8) -> Result<ChaCha, Refusal>
         ensures { Made rounds result }
     {
-        let rounds = match rounds {
-            8 => Rounds::Eight,
-            12 => Rounds::Twelve,
-            20 => Rounds::Twenty,
-            _ => return Err(Refusal::UnknownSuite),
-        };
+        let rounds = Rounds::try_from(rounds)?;
         Ok(ChaCha { rounds })
     }
 }
@@ -169,11 +187,7 @@ impl Stream for ChaCha {
     ghost byted = { unfold byte_at SpecsChaCha.block in λ s seed nonce place. serialised_byte (mixed (count s.rounds / 2) (start seed nonce (place / 64))) (place % 64) };
 
     fn rounds(&self) -> u8 {
-        match self.rounds {
-            Rounds::Eight => 8,
-            Rounds::Twelve => 12,
-            Rounds::Twenty => 20,
-        }
+        u8::from(self.rounds)
     }
 
     fn xor(

@@ -20,6 +20,7 @@ pub fn multiply(a: u8, b: u8) -> u8
     let mut sum = 0;
     let mut power = a;
     let mut bits = b;
+    // Eight turns, and no index: a fold would carry all three values as a triple.
     for _i in 0..8u32 {
         if bits % 2 == 1 {
             sum ^= power;

@@ -3,7 +3,7 @@
 
 #![tactic(auto)]
 
-ghost use Rattle.std.specs.Prelude.{◌≡◌, ℕ, ◌*◌, ◌<◌, List, length, bit_xor};
+ghost use Rattle.std.specs.Prelude.{◌≡◌, ℕ, ◌*◌, ◌<◌, List, ◌++◌, length, drop, bit_xor};
 ghost use Rattle.std.specs.Simd.Lanes.{zip2};
 ghost use Rattle.stream.specs.Stream.{StreamOf, Xored, run};
 
@@ -43,6 +43,29 @@ pub trait Stream {
     ghost byted: { (s : Self) (seed nonce : List ℕ) (place : ℕ) → (meaning s).byte seed nonce place < 256 };
 }
 
+// A borrowed stream is the stream behind the reference.
+impl<S: Stream> Stream for &S {
+    ghost meaning = { λ s. S.meaning s.now };
+
+    fn rounds(&self) -> u8 {
+        (**self).rounds()
+    }
+
+    fn xor(
+        &self,
+        seed: &[u8; 32],
+        nonce: &[u8; 12],
+        place: u32,
+        buf: &mut [u8],
+    ) -> Result<(), Refusal> {
+        (**self).xor(seed, nonce, place, buf)
+    }
+
+    ghost counted = { λ s. S.counted s.now };
+
+    ghost byted = { λ s. S.byted s.now };
+}
+
 // What a stream is once a seed and a nonce are fixed, where it comes in blocks
 // of 64 bytes.
 pub trait Blocks {
@@ -54,13 +77,15 @@ pub trait Blocks {
         ensures { result ≡ run (byte self.now) (64 * index) 64 };
 }
 
-// Exclusive-ors each byte of `part` with the byte of `pad` at its index.
-fn xor_bytes(part: &mut [u8], pad: &[u8])
-    requires { length part.old ≡ length pad.now }
-    ensures { part.new ≡ zip2 bit_xor part.old pad.now }
+// Exclusive-ors each byte of `part` with the byte of `pad` at its index, as far
+// as both go; the rest of `part` stays as it was.
+pub fn xor_bytes(part: &mut [u8], pad: &[u8])
+    ensures { part.new ≡ zip2 bit_xor part.old pad.now ++ drop (length pad.now) part.old }
 {
-    for i in 0..part.len() {
-        part[i] ^= pad[i];
+    let n = part.len().min(pad.len());
+    // By index: of what a `zip` with `iter_mut` writes, a proof knows nothing.
+    for (i, mask) in pad[..n].iter().enumerate() {
+        part[i] ^= *mask;
     }
 }
 
@@ -73,13 +98,11 @@ pub fn xor_blocks<B: Blocks>(blocks: &B, place: u32, buf: &mut [u8]) -> Result<(
         return Err(Refusal::PastStream);
     }
     let start = place as usize;
-    let mut at = 0;
-    while at < buf.len() {
-        let offset = (start + at) % 64;
-        let n = (64 - offset).min(buf.len() - at);
-        let block = blocks.block(((start + at) / 64) as u32);
-        xor_bytes(&mut buf[at..at + n], &block[offset..offset + n]);
-        at += n;
+    let end = start + buf.len();
+    xor_bytes(buf, &blocks.block(place / 64)[start % 64..]);
+    // By ranges: of what is written through `chunks_mut`, a proof knows nothing.
+    for index in start / 64 + 1..end.div_ceil(64) {
+        xor_bytes(&mut buf[64 * index - start..], &blocks.block(index as u32));
     }
     Ok(())
 }

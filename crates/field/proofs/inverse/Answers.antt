@@ -1,4 +1,4 @@
-use mathlib.Core.Path.{◌≡◌, sym, subst}
+use Rattle.std.proofs.Common.{◌≡◌, sym, subst}
 use Rattle.field.specs.Field.{inverse, Inverse}
 use Rattle.field.proofs.Products.{inverts}
 use Rattle.field.proofs.inverse.Goals as goal

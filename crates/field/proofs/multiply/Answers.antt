@@ -1,7 +1,5 @@
-use mathlib.Core.Path.{◌≡◌, ap, sym, ◌∙◌}
-use Prim.Native.Nat.{suc, ◌/◌}
-use native.Mathlib.Omega.{arith}
-use lib.Bits.{bit_xor, xor_zero_r}
+use Rattle.std.proofs.Common.{◌≡◌, suc, ◌/◌, bit_xor, ap, sym, ◌∙◌, arith}
+use lib.Bits.{xor_zero_r}
 use Rattle.field.specs.Field.{times, product, xtime}
 use Rattle.field.proofs.Products.{bit_one, bit_zero}
 use Rattle.field.proofs.multiply.Goals as goal

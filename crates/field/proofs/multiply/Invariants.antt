@@ -1,6 +1,4 @@
-use Prim.Native.Nat.{ℕ, ◌+◌}
-use mathlib.Core.Path.{◌≡◌}
-use lib.Bits.{bit_xor}
+use Rattle.std.proofs.Common.{◌≡◌, ℕ, ◌+◌, bit_xor}
 use Rattle.field.specs.Field.{times}
 use Rattle.field.proofs.multiply.Given as goal
 
