@@ -1,4 +1,5 @@
 pub mod Ints
+mod Chunks
 mod Poly
 mod Wrap
 mod Turns

@@ -1,6 +1,5 @@
 -- The results of the hashes, joined.
 use Rattle.std.proofs.Common.{◌≡◌, ℕ, zero, suc, ◌+◌, ◌-◌, ◌*◌, ◌%◌, ◌^◌, ◌<◌, List, [], ◌∷◌, ◌++◌, length, get_or, take, drop, replicate, sym, refl, ap, ◌∙◌, append_assoc, mul-zero, mul-suc, add-one, arith}
-use native.Mathlib.Nat.{sub-zero}
 use borrow.Rule.Slice.PartMut.{put_mid}
 use Rattle.std.proofs.lemmas.List.{take_at, drop_at, drop-replicate, length-append}
 use Rattle.hash.specs.declared.Strength.{Strength}
@@ -44,14 +43,15 @@ write_more a w n front ys e =
     ∙ sym (append_assoc front ys (replicate (n - w) 0))
 
 -- one more result_of written
-pub result_more : (s : Strength) (k : List ℕ) (h : ℕ → ℕ) (i : ℕ) (out after part : List ℕ) → out ≡ results s k h i ++ replicate (32 - result_width s * i) 0 → part ≡ take 3 (drop (3 * i) k) → after ≡ put_mid (result_width s * i) (result_width s) out (result_of s part (h i)) → after ≡ results s k h (i + 1) ++ replicate (32 - result_width s * (i + 1)) 0
-result_more s k h i out after part e p f =
+pub result_more : (s : Strength) (k : List ℕ) (h : ℕ → ℕ) (i v : ℕ) (out after part : List ℕ) → out ≡ results s k h i ++ replicate (32 - result_width s * i) 0 → part ≡ take 3 (drop (3 * i) k) → v ≡ h i → after ≡ put_mid (result_width s * i) (result_width s) out (result_of s part v) → after ≡ results s k h (i + 1) ++ replicate (32 - result_width s * (i + 1)) 0
+result_more s k h i v out after part e p q f =
     let w = result_width s in
     let r = results s k h i in
     let y = result_of s (take 3 (drop (3 * i) k)) (h i) in
     let c : 32 - w * i - w ≡ 32 - w * suc i = omega (arith, mul-suc w i) in
     rw add-one (
     f
+    ∙ ap (λ x. put_mid (w * i) w out (result_of s part x)) q
     ∙ ap (λ x. put_mid (w * i) w x (result_of s part (h i))) e
     ∙ ap (λ x. put_mid (w * i) w (r ++ replicate (32 - w * i) 0) (result_of s x (h i))) p
     ∙ write_more (w * i) w (32 - w * i) r y (length_results s k h i)
@@ -74,14 +74,6 @@ get_or_below60 (k ∷ ks) zero = refl
 get_or_below60 (k ∷ ks) (suc i) = get_or_below60 ks i
 
 -- zeros behind a part, written over the front of zeros
-pub fill_front : (n : ℕ) (part ys : List ℕ) → ys ≡ part → ys ++ drop (length part - 0) (replicate n 0) ≡ part ++ replicate (n - length part) 0
-fill_front n part ys e =
-    ap (λ x. x ++ drop (length part - 0) (replicate n 0)) e
-    ∙ ap (λ x. part ++ drop x (replicate n 0)) (sub-zero (length part))
-    ∙ ap (λ x. part ++ x) (drop-replicate (length part) n 0)
-
--- no result_of written yet
-pub none_written : (s : Strength) → ◌≡◌ {A = List ℕ} (replicate 32 0) (replicate (32 - result_width s * 0) 0)
-none_written Lo = refl
-none_written Mid = refl
-none_written Hi = refl
+pub fill_front : (n fill : ℕ) (part ys : List ℕ) → fill ≡ length part → ys ≡ part → ys ++ drop fill (replicate n 0) ≡ part ++ replicate (n - length part) 0
+fill_front n fill part ys l e =
+    ap (λ x. x ++ drop fill (replicate n 0)) e ∙ ap (λ x. part ++ drop x (replicate n 0)) l ∙ ap (λ x. part ++ x) (drop-replicate (length part) n 0)

@@ -8,18 +8,23 @@ use Rattle.hash.specs.declared.Strength.TheVariants.{Lo, Mid, Hi}
 use Rattle.hash.specs.Strength.{hashes, nh_words}
 use Rattle.hash.specs.Bytes.{pad, str}
 use Rattle.hash.specs.Hash.{h_of, h_at, results, hashed, below60}
-use Rattle.hash.specs.Hasher.{Holds, ending, nh_part, poly_point}
+use Rattle.hash.specs.Running.{nh_part, poly_point}
+use Rattle.hash.specs.Hasher.{Holds, ending}
 use Rattle.hash.specs.Subkeys.{kn_of, kp_of, hashed_by, Reads}
 use Rattle.hash.specs.Message.{message}
 use Rattle.hash.proofs.Results.{results_same, results_parts, get_or_below60}
 
-pub hashed_from : (s : Strength) (keys : HashKeys) (hasher : Hasher) (t : ℕ) (seen m after r : List ℕ) → t ≡ hashes s → seen ≡ m → Holds keys t hasher seen → ((i : ℕ) → i < t → get_or after i 0 ≡ ending keys hasher i []) → r ≡ pad 32 (results s keys.k_a (λ i. get_or after i 0) (hashes s)) → r ≡ hashed s keys.k_n (below60 keys.k_p) keys.k_a m
+-- the results for h of an input, as a hasher that has taken it in ends with them
+pub hashed_from : (st : Strength) (keys : HashKeys) (s s' : Hasher) (m r : List ℕ) → Holds st keys s m → s'.strength ≡ s.strength → s'.keys ≡ s.keys → ((i : ℕ) → i < hashes s.strength → get_or s'.running i 0 ≡ ending s i []) → r ≡ pad 32 (results s'.strength s'.keys.now.k_a (λ i. get_or s'.running i 0) (hashes s'.strength)) → r ≡ hashed st keys.k_n (below60 keys.k_p) keys.k_a m
 unfolding hashed h_at
-hashed_from s keys hasher t seen m after r n e h f g =
-    g ∙ ap (pad 32) (results_same s keys.k_a _ _ (hashes s) (λ i lt.
-    f i (rw n lt)
-    ∙ h i (rw n lt) []
-    ∙ ap (h_of (nh_part keys i) (poly_point keys i)) (append-nil seen ∙ e)
+hashed_from st keys s s' m r h t k f g =
+    g
+    ∙ ap (λ x. pad 32 (results x s'.keys.now.k_a (λ i. get_or s'.running i 0) (hashes x))) (t ∙ h.strength_is)
+    ∙ ap (λ x. pad 32 (results st x.k_a (λ i. get_or s'.running i 0) (hashes st))) (ap (λ x. x.now) k ∙ h.keys_are)
+    ∙ ap (pad 32) (results_same st keys.k_a _ _ (hashes st) (λ i lt.
+    f i (rw h.strength_is lt)
+    ∙ h.ends i lt []
+    ∙ ap (h_of (nh_part keys i) (poly_point keys i)) (append-nil m)
     ∙ ap (λ x. h_of (nh_part keys i) x m) (sym (get_or_below60 keys.k_p i))))
 
 -- the message, taken in part by part

@@ -4,4 +4,5 @@ pub mod Nh
 pub mod Hash
 pub mod Subkeys
 pub mod Message
+pub mod Running
 pub mod Hasher

@@ -6,16 +6,18 @@
 
 #![tactic(auto)]
 
-ghost use Rattle.std.specs.Prelude.{◌≡◌, ℕ, ◌+◌, ◌-◌, ◌*◌, ◌/◌, ◌%◌, ◌^◌, ◌<◌, ◌≤◌, min, List, [], ◌++◌, length, take, drop, replicate, slice_index};
+ghost use Rattle.std.specs.Prelude.{◌≡◌, ℕ, ◌+◌, ◌-◌, ◌*◌, ◌%◌, ◌^◌, ◌<◌, ◌≤◌, ◌==◌, List, [], ◌++◌, length, take, map, replicate, slice_index};
+ghost use Rattle.std.proofs.Common.{rules};
 ghost use Rattle.hash.specs.Strength.{hashes, siv_length, subkey_bytes};
 ghost use Rattle.hash.specs.Nh.{nh};
-ghost use Rattle.hash.specs.Bytes.{ints, pad};
-ghost use Rattle.hash.specs.Hash.{turn, affine, block_number, result_of, result_width, results, hashed, below60};
-ghost use Rattle.hash.specs.Hasher.{nh_part, Below, Turns, Sound, Holds, Takes, Passes, ending};
+ghost use Rattle.hash.specs.Bytes.{number, ints, pad};
+ghost use Rattle.hash.specs.Hash.{turn, affine, result_of, result_width, results, hashed, below60};
+ghost use Rattle.hash.specs.Running.{Below};
 ghost use Rattle.hash.specs.Subkeys.{Reads};
 ghost use Rattle.hash.specs.Message.{message};
 ghost use borrow.Rule.Slice.PartMut.{put_mid};
-ghost use Rattle.hash.specs.declared.HashKeys.{HashKeys};
+
+use std::marker::Model;
 
 // How strong a sealing is: how many hashes, and how long a SIV.
 #[derive(Clone, Copy, PartialEq, Eq, Debug)]
@@ -33,7 +35,8 @@ const DIGITS: u32 = 20;
 const PRIME: u64 = 0x1fff_ffff_ffff_ffff;
 
 // The subkeys of the hash. The words of kN and the numbers of kP and kA that
-// a strength has stand at the front; what is behind them is not looked at.
+// a strength has stand at the front; what is behind them is not looked at, and
+// is there since nothing here takes memory from a heap.
 #[derive(Clone, Copy)]
 pub struct HashKeys {
     pub k_n: [u32; 36],
@@ -41,13 +44,26 @@ pub struct HashKeys {
     pub k_a: [u64; 18],
 }
 
-// A hash under way: the bytes that wait for the next block, how many they
-// are, and the running value of each of the t hashes.
-#[derive(Clone, Copy)]
-struct Hasher {
-    block: [u8; 64],
+// The bytes that wait for the next block, at most 64: an array and how many of
+// its bytes wait, since nothing here takes memory from a heap. Contracts see
+// the list of those bytes.
+#[derive(Drop)]
+struct Waiting {
+    bytes: [u8; BLOCK],
     fill: usize,
+}
+
+// A hash under way: the bytes that wait, and the running value of each of the
+// hashes of its strength.
+#[derive(Drop)]
+struct Hasher<'a> {
+    strength: Strength,
+    keys: &'a HashKeys,
+    waiting: Waiting,
     running: [u64; 6],
+
+    // Each running value is below the prime.
+    ghost below: { Below running },
 }
 
 impl Strength {
@@ -87,15 +103,16 @@ impl Strength {
 
 // NH, modulo 2^64.
 fn nh_sum(k: &[u32], m: &[u32]) -> u64
-    requires { (length m.now ≤ length k.now) × (length m.now < 2 ^ 60) }
     ensures { result ≡ nh k.now m.now % 2 ^ 64 }
 {
+    let (keys, _) = k.as_chunks::<4>();
+    let (words, _) = m.as_chunks::<4>();
     let mut sum: u64 = 0;
-    for j in 0..m.len() / 4 {
-        let a = k[4 * j] as u64 + m[4 * j] as u64;
-        let b = k[4 * j + 1] as u64 + m[4 * j + 1] as u64;
-        let c = k[4 * j + 2] as u64 + m[4 * j + 2] as u64;
-        let d = k[4 * j + 3] as u64 + m[4 * j + 3] as u64;
+    for (k, m) in keys.iter().zip(words) {
+        let a = u64::from(k[0]) + u64::from(m[0]);
+        let b = u64::from(k[1]) + u64::from(m[1]);
+        let c = u64::from(k[2]) + u64::from(m[2]);
+        let d = u64::from(k[3]) + u64::from(m[3]);
         sum = sum
             .wrapping_add(a.wrapping_mul(c))
             .wrapping_add(b.wrapping_mul(d));
@@ -127,8 +144,7 @@ fn poly_step(h: u64, k: u64, a: u64) -> u64
 }
 
 // The last step of strength hi: the bytes that h becomes under three numbers.
-fn affine_bytes(k: &[u64], h: u64) -> [u8; 4]
-    requires { length k.now ≡ 3 }
+fn affine_bytes(k: &[u64; 3], h: u64) -> [u8; 4]
     ensures { result ≡ affine k.now h }
 {
     let low = k[1].wrapping_mul(h % 0x1_0000_0000);
@@ -137,41 +153,51 @@ fn affine_bytes(k: &[u64], h: u64) -> [u8; 4]
     ((sum / 0x1_0000_0000) as u32).to_le_bytes()
 }
 
-// Reads words of 4 bytes, as many as there is room for.
-fn read_words(bytes: &[u8], out: &mut [u32])
-    requires { length bytes.now ≡ 4 * length out.old }
-    ensures { out.new ≡ ints 4 bytes.now }
-{
-    for i in 0..out.len() {
-        let word = [
-            bytes[4 * i],
-            bytes[4 * i + 1],
-            bytes[4 * i + 2],
-            bytes[4 * i + 3],
-        ];
-        out[i] = u32::from_le_bytes(word);
+// A word of so many bytes, the lowest first.
+trait Word<const BYTES: usize>: Copy {
+    // The number that a word is.
+    ghost value: { Self → ℕ };
+
+    fn from_bytes(bytes: [u8; BYTES]) -> Self
+        ensures { value result ≡ number bytes.entry };
+
+    // Its bytes are an array that is not empty and can be made.
+    ghost fits_memory: { (0 < BYTES) × (BYTES < 2 ^ 63) };
+}
+
+impl Word<4> for u32 {
+    ghost value = { λ w. w };
+
+    ghost fits_memory = { Prim.search rules };
+
+    fn from_bytes(bytes: [u8; 4]) -> u32
+        ensures { result ≡ number bytes }
+    {
+        u32::from_le_bytes(bytes)
     }
 }
 
-// Reads numbers of 8 bytes, as many as there is room for.
-fn read_numbers(bytes: &[u8], out: &mut [u64])
-    requires { length bytes.now ≡ 8 * length out.old }
-    ensures { out.new ≡ ints 8 bytes.now }
+impl Word<8> for u64 {
+    ghost value = { λ w. w };
+
+    ghost fits_memory = { Prim.search rules };
+
+    fn from_bytes(bytes: [u8; 8]) -> u64
+        ensures { result ≡ number bytes }
+    {
+        u64::from_le_bytes(bytes)
+    }
+}
+
+// Reads as many words as there is room for.
+fn read_words<const BYTES: usize, W: Word<BYTES>>(bytes: &[u8], out: &mut [W])
+    requires { length bytes.now ≡ BYTES * length out.old }
+    ensures { map W.value out.new ≡ ints BYTES bytes.now }
 {
-    for i in 0..out.len() {
-        let low = [
-            bytes[8 * i],
-            bytes[8 * i + 1],
-            bytes[8 * i + 2],
-            bytes[8 * i + 3],
-        ];
-        let high = [
-            bytes[8 * i + 4],
-            bytes[8 * i + 5],
-            bytes[8 * i + 6],
-            bytes[8 * i + 7],
-        ];
-        out[i] = u32::from_le_bytes(low) as u64 + u32::from_le_bytes(high) as u64 * 0x1_0000_0000;
+    let (words, _) = bytes.as_chunks::<BYTES>();
+    // In a loop over `out.iter_mut().zip(words)` no invariant can name `out`.
+    for (i, word) in words.iter().enumerate() {
+        out[i] = W::from_bytes(*word);
     }
 }
 
@@ -188,156 +214,184 @@ impl HashKeys {
         let mut k_n = [0; 36];
         let mut k_p = [0; 6];
         let mut k_a = [0; 18];
-        read_words(&bytes[32..points], &mut k_n[0..words]);
-        read_numbers(&bytes[points..scales], &mut k_p[0..t]);
-        read_numbers(&bytes[scales..scales + 24 * t], &mut k_a[0..3 * t]);
+        read_words(&bytes[32..points], &mut k_n[..words]);
+        read_words(&bytes[points..scales], &mut k_p[..t]);
+        read_words(&bytes[scales..scales + 24 * t], &mut k_a[..3 * t]);
         HashKeys { k_n, k_p, k_a }
     }
 }
 
-// At most 64 bytes, with zeros behind them.
-fn zero_filled(part: &[u8]) -> [u8; 64]
-    requires { length part.now ≤ 64 }
-    ensures { result ≡ part.now ++ replicate (64 - length part.now) 0 }
-{
-    let mut block = [0; 64];
-    block[0..part.len()].copy_from_slice(part);
-    block
+impl Model for Waiting {
+    ghost Value = { List ℕ };
+
+    ghost view = { λ w. take w.fill w.bytes };
+
+    ghost invariant = { λ w. w.fill ≤ 64 };
 }
 
-// Turns the t running values by one block: its words, and its length modulo 16.
-fn turn_all(running: &mut [u64; 6], keys: &HashKeys, t: usize, words: &[u32], odd: u64)
-    requires { (t ≤ 6) × ((length words.now ≤ 16) × ((odd < 16) × (Below running.old))) }
-    ensures { Turns keys.now t (λ i. nh (nh_part keys.now i) words.now % 2 ^ 60 + odd) running.old running.new }
-{
-    for i in 0..t {
-        let a = nh_sum(&keys.k_n[4 * i..4 * i + 16], words) % 0x1000_0000_0000_0000 + odd;
-        running[i] = poly_step(running[i], keys.k_p[i], a);
+impl Waiting {
+    fn new() -> Waiting
+        ensures { result ≡ [] }
+    {
+        Waiting {
+            bytes: [0; BLOCK],
+            fill: 0,
+        }
+    }
+
+    fn len(&self) -> usize
+        ensures { (result ≡ length self.now) × (result ≤ 64) }
+    {
+        self.fill
+    }
+
+    fn is_empty(&self) -> bool
+        ensures { result ≡ (length self.now == 0) }
+    {
+        self.fill == 0
+    }
+
+    // Takes as many bytes as there is room for, and gives back the others.
+    fn take_from<'a>(&mut self, part: &'a [u8]) -> &'a [u8]
+        ensures all { self.new ++ result.now ≡ self.old ++ part.now }
+        ensures left { length result.now ≡ length part.now - (64 - length self.old) }
+    {
+        let count = part.len().min(BLOCK - self.fill);
+        let (front, rest) = part.split_at(count);
+        self.bytes[self.fill..self.fill + count].copy_from_slice(front);
+        self.fill += count;
+        rest
+    }
+
+    // The bytes that wait, with zeros behind them.
+    fn block(&self) -> [u8; BLOCK]
+        ensures { result ≡ self.now ++ replicate (64 - length self.now) 0 }
+    {
+        let mut block = [0; BLOCK];
+        block[..self.fill].copy_from_slice(&self.bytes[..self.fill]);
+        block
+    }
+
+    fn clear(&mut self)
+        ensures { self.new ≡ [] }
+    {
+        self.fill = 0;
     }
 }
 
-// The same for a block of 64 bytes.
-fn turn_block(running: &mut [u64; 6], keys: &HashKeys, t: usize, block: &[u8])
-    requires { (t ≤ 6) × ((length block.now ≡ 64) × (Below running.old)) }
-    ensures { Turns keys.now t (λ i. block_number (nh_part keys.now i) block.now) running.old running.new }
-{
-    let mut words = [0; 16];
-    read_words(block, &mut words);
-    turn_all(running, keys, t, &words, 0);
-}
+impl Hasher<'_> {
+    ghost use Rattle.std.specs.Prelude.{◌≡◌, ◌+◌, ◌%◌, ◌^◌, ◌<◌, List, ℕ, [], ◌++◌, length};
+    ghost use Rattle.hash.specs.Nh.{nh};
+    ghost use Rattle.hash.specs.Bytes.{pad};
+    ghost use Rattle.hash.specs.Hash.{block_number, hashed, below60};
+    ghost use Rattle.hash.specs.Running.{nh_part};
+    ghost use Rattle.hash.specs.declared.HashKeys.{HashKeys};
+    ghost use Rattle.hash.specs.declared.Strength.{Strength};
+    ghost use Rattle.hash.specs.Hasher.{Turns, Takes, Passes, Holds};
 
-impl Hasher {
     // A hash that has taken in nothing.
-    fn new() -> Hasher
-        ensures sound { Sound result }
-        ensures holds { ((keys : HashKeys) (t : ℕ) → t ≤ 6 → Holds keys t result []) }
+    fn new(strength: Strength, keys: &HashKeys) -> Hasher<'_>
+        ensures { Holds strength keys.now result [] }
     {
         Hasher {
-            block: [0; 64],
-            fill: 0,
+            strength,
+            keys,
+            waiting: Waiting::new(),
             running: [1; 6],
         }
     }
 
-    // Makes room where the block is full: more input is there.
-    fn flush(&mut self, keys: &HashKeys, t: usize)
-        requires { (t ≤ 6) × (Sound self.old) }
-        ensures sound { Sound self.new }
-        ensures room { self.new.fill < 64 }
-        ensures goes { Takes keys.now t self.old [] self.new }
+    // Turns the running values by one block: its words, and its length modulo 16.
+    fn turn(&mut self, words: &[u32], odd: u64)
+        requires { odd < 16 }
+        ensures { Turns (λ i. nh (nh_part self.old.keys.now i) words.now % 2 ^ 60 + odd) self.old self.new }
     {
-        if self.fill == BLOCK {
-            turn_block(&mut self.running, keys, t, &self.block[..]);
-            self.fill = 0;
+        let t = self.strength.hashes();
+        let keys = self.keys;
+        // A copy: a field beside a ghost field cannot be lent as `&mut` here yet.
+        let mut running = self.running;
+        // Zipped with the keys, no invariant could name the values written.
+        for (i, h) in running[..t].iter_mut().enumerate() {
+            let number = nh_sum(&keys.k_n[4 * i..4 * i + 16], words) % 0x1000_0000_0000_0000 + odd;
+            *h = poly_step(*h, keys.k_p[i], number);
+        }
+        self.running = running;
+    }
+
+    // The same for a block of 64 bytes.
+    fn turn_block(&mut self, block: &[u8; BLOCK])
+        ensures { Turns (λ i. block_number (nh_part self.old.keys.now i) block.now) self.old self.new }
+    {
+        let mut words = [0; 16];
+        read_words(block, &mut words);
+        self.turn(&words, 0);
+    }
+
+    // Makes room where a whole block waits: more input is there.
+    fn flush(&mut self)
+        ensures room { length self.new.waiting < 64 }
+        ensures goes { Takes self.old [] self.new }
+    {
+        if self.waiting.len() == BLOCK {
+            let block = self.waiting.block();
+            self.turn_block(&block);
+            self.waiting.clear();
         }
     }
 
-    // Takes in a block of 64 bytes that more input follows, while none wait.
-    fn take_block(&mut self, keys: &HashKeys, t: usize, block: &[u8])
-        requires { (t ≤ 6) × ((Sound self.old) × ((self.old.fill ≡ 0) × (length block.now ≡ 64))) }
-        ensures sound { Sound self.new }
-        ensures goes { Takes keys.now t self.old block.now self.new }
+    // Takes in some of the input at hand, which is not empty, and gives back the rest.
+    fn take_next<'a>(&mut self, part: &'a [u8]) -> &'a [u8]
+        requires { 0 < length part.now }
+        ensures count { length result.now < length part.now }
+        ensures goes { Passes self.old part.now result.now self.new }
     {
-        turn_block(&mut self.running, keys, t, block);
-    }
-
-    // Takes as many bytes as the block has room for, and says how many.
-    fn take_some(&mut self, part: &[u8]) -> usize
-        requires { Sound self.old }
-        ensures count { result ≡ min (length part.now) (64 - self.old.fill) }
-        ensures sound { Sound self.new }
-        ensures goes { ((keys : HashKeys) (t : ℕ) → Passes keys t self.old (take result part.now) [] self.new) }
-    {
-        let fill = self.fill;
-        let count = part.len().min(BLOCK - fill);
-        self.block[fill..fill + count].copy_from_slice(&part[0..count]);
-        self.fill = fill + count;
-        count
-    }
-
-    // Takes some of the input at hand, which is not empty, and says how much.
-    fn take_next(&mut self, keys: &HashKeys, t: usize, part: &[u8]) -> usize
-        requires { (t ≤ 6) × ((Sound self.old) × (0 < length part.now)) }
-        ensures count { (0 < result) × (result ≤ length part.now) }
-        ensures sound { Sound self.new }
-        ensures goes { Passes keys.now t self.old part.now (drop result part.now) self.new }
-    {
-        self.flush(keys, t);
-        if self.fill == 0 && part.len() > BLOCK {
-            self.take_block(keys, t, &part[0..BLOCK]);
-            BLOCK
-        } else {
-            self.take_some(part)
+        self.flush();
+        match part.split_first_chunk::<BLOCK>() {
+            Some((block, rest)) if self.waiting.is_empty() && !rest.is_empty() => {
+                self.turn_block(block);
+                rest
+            }
+            _ => self.waiting.take_from(part),
         }
     }
 
     // Takes in a part of the input.
-    fn absorb(&mut self, keys: &HashKeys, t: usize, part: &[u8])
-        requires { (t ≤ 6) × (Sound self.old) }
-        ensures sound { Sound self.new }
-        ensures holds { ((seen : List ℕ) → Holds keys.now t self.old seen → Holds keys.now t self.new (seen ++ part.now)) }
+    fn absorb(&mut self, part: &[u8])
+        ensures { ((strength : Strength) (keys : HashKeys) (seen : List ℕ) → Holds strength keys self.old seen → Holds strength keys self.new (seen ++ part.now)) }
     {
-        let mut at = 0;
-        while at < part.len() {
-            at += self.take_next(keys, t, &part[at..part.len()]);
+        let mut rest = part;
+        while !rest.is_empty() {
+            rest = self.take_next(rest);
         }
     }
 
     // Takes in a part of the input, and zeros up to a multiple of 16 bytes.
-    fn absorb_padded(&mut self, keys: &HashKeys, t: usize, part: &[u8])
-        requires { (t ≤ 6) × (Sound self.old) }
-        ensures sound { Sound self.new }
-        ensures holds { ((seen : List ℕ) → Holds keys.now t self.old seen → Holds keys.now t self.new (seen ++ pad 16 part.now)) }
+    fn absorb_padded(&mut self, part: &[u8])
+        ensures { ((strength : Strength) (keys : HashKeys) (seen : List ℕ) → Holds strength keys self.old seen → Holds strength keys self.new (seen ++ pad 16 part.now)) }
     {
         let zeros = [0; 16];
         let count = (16 - part.len() % 16) % 16;
-        self.absorb(keys, t, part);
-        self.absorb(keys, t, &zeros[0..count]);
+        self.absorb(part);
+        self.absorb(&zeros[..count]);
     }
 
-    // Ends the input: turns by the last block, and leaves h of each hash.
-    fn finish(&mut self, keys: &HashKeys, t: usize)
-        requires { (t ≤ 6) × (Sound self.old) }
-        ensures { ((i : ℕ) → i < t → slice_index self.new.running i ≡ ending keys.now self.old i []) }
+    // Ends the input: turns by the last block, and gives the joined results.
+    fn finish(mut self) -> [u8; 32]
+        ensures { ((strength : Strength) (keys : HashKeys) (seen : List ℕ) → Holds strength keys self.entry seen → result ≡ hashed strength keys.k_n (below60 keys.k_p) keys.k_a seen) }
     {
-        let fill = self.fill;
-        let last = zero_filled(&self.block[0..fill]);
+        let len = self.waiting.len();
+        let block = self.waiting.block();
         let mut words = [0; 16];
-        read_words(&last, &mut words);
-        let count = (fill + 15) / 16 * 4;
-        turn_all(
-            &mut self.running,
-            keys,
-            t,
-            &words[0..count],
-            (fill % 16) as u64,
-        );
+        read_words(&block, &mut words);
+        let count = len.div_ceil(16) * 4;
+        self.turn(&words[..count], (len % 16) as u64);
+        join(self.strength, &self.keys.k_a, &self.running)
     }
 }
 
 // Writes the result of hash i to its place in the joined results.
-fn write_result(out: &mut [u8; 32], strength: Strength, k: &[u64], h: u64, i: usize)
-    requires { (length k.now ≡ 3) × (i < hashes strength) }
+fn write_result(out: &mut [u8; 32], strength: Strength, k: &[u64; 3], h: u64, i: usize)
+    requires { i < hashes strength }
     ensures { out.new ≡ put_mid (result_width strength * i) (result_width strength) out.old (result_of strength k.now h) }
 {
     match strength {
@@ -355,8 +409,9 @@ fn join(strength: Strength, k: &[u64; 18], h: &[u64; 6]) -> [u8; 32]
     ensures { result ≡ pad 32 (results strength k.now (λ i. slice_index h.now i) (hashes strength)) }
 {
     let mut out = [0; 32];
-    for i in 0..strength.hashes() {
-        write_result(&mut out, strength, &k[3 * i..3 * i + 3], h[i], i);
+    let (scales, _) = k.as_chunks::<3>();
+    for (i, h) in h[..strength.hashes()].iter().enumerate() {
+        write_result(&mut out, strength, &scales[i], *h, i);
     }
     out
 }
@@ -365,23 +420,19 @@ fn join(strength: Strength, k: &[u64; 18], h: &[u64; 6]) -> [u8; 32]
 pub fn hash(strength: Strength, keys: &HashKeys, input: &[u8]) -> [u8; 32]
     ensures { result ≡ hashed strength keys.now.k_n (below60 keys.now.k_p) keys.now.k_a input.now }
 {
-    let t = strength.hashes();
-    let mut hasher = Hasher::new();
-    hasher.absorb(keys, t, input);
-    hasher.finish(keys, t);
-    join(strength, &keys.k_a, &hasher.running)
+    let mut hasher = Hasher::new(strength, keys);
+    hasher.absorb(input);
+    hasher.finish()
 }
 
 // HS1-Hash of what sealing hashes: header and text, each padded, and their lengths.
 pub fn hash_message(strength: Strength, keys: &HashKeys, header: &[u8], text: &[u8]) -> [u8; 32]
     ensures { result ≡ hashed strength keys.now.k_n (below60 keys.now.k_p) keys.now.k_a (message header.now text.now) }
 {
-    let t = strength.hashes();
-    let mut hasher = Hasher::new();
-    hasher.absorb_padded(keys, t, header);
-    hasher.absorb_padded(keys, t, text);
-    hasher.absorb(keys, t, &header.len().to_le_bytes());
-    hasher.absorb(keys, t, &text.len().to_le_bytes());
-    hasher.finish(keys, t);
-    join(strength, &keys.k_a, &hasher.running)
+    let mut hasher = Hasher::new(strength, keys);
+    hasher.absorb_padded(header);
+    hasher.absorb_padded(text);
+    hasher.absorb(&header.len().to_le_bytes());
+    hasher.absorb(&text.len().to_le_bytes());
+    hasher.finish()
 }

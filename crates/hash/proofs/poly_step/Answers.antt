@@ -6,12 +6,6 @@ use Rattle.hash.proofs.poly_step.Goals as goal
 pub overflow_mul-product : goal.overflow_mul-product
 overflow_mul-product c = omega (arith, product_le c.loop-i.power c.loop-i.digits c.loop-i.invariant.2)
 
-pub overflow_add-low : goal.overflow_add-low
-overflow_add-low c = omega arith
-
-pub overflow_add-high : goal.overflow_add-high
-overflow_add-high c = omega (arith, product_le c.loop-i.power c.loop-i.digits c.loop-i.invariant.2)
-
 pub loop-i-preserved : goal.loop-i-preserved
 loop-i-preserved c =
     let w = c.loop-i.power in

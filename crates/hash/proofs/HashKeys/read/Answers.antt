@@ -1,4 +1,5 @@
-use Rattle.std.proofs.Common.{◌≡◌, ◌+◌, ◌*◌, length, ap, arith, rules}
+use Rattle.std.proofs.Common.{◌≡◌, ◌+◌, ◌*◌, length, sym, ap, ◌∙◌, arith, rules}
+use Rattle.std.proofs.lemmas.List.{map-id}
 use Rattle.hash.specs.Strength.{hashes, nh_words}
 use Rattle.hash.specs.Hash.{below60}
 use Rattle.hash.proofs.Ints.{read_front}
@@ -15,7 +16,7 @@ returns c =
     let some = hashes_some s in
     let l : length bytes ≡ 368 = search rules in
     record {
-      words = read_front 4 (nh_words s) _ (4 * nh_words s) 32 32 bytes _ _ c.read_words.ensures (omega arith) (omega arith) (omega arith) (omega arith);
-      points = ap below60 (read_front 8 (hashes s) _ (8 * hashes s) (32 + 4 * (12 + 4 * t)) (32 + 4 * nh_words s) bytes _ _ c.read_numbers.ensures (omega arith) (omega arith) (omega arith) (omega arith));
-      scales = read_front 8 (3 * hashes s) _ (24 * hashes s) (32 + 4 * (12 + 4 * t) + 8 * t) (32 + 4 * nh_words s + 8 * hashes s) bytes _ _ c.read_numbers-2.ensures (omega arith) (omega arith) (omega arith) (omega arith);
+      words = read_front 4 (nh_words s) _ (4 * nh_words s) 32 32 bytes _ _ (sym (map-id _) ∙ c.read_words.ensures) (omega arith) (omega arith) (omega arith) (omega arith);
+      points = ap below60 (read_front 8 (hashes s) _ (8 * hashes s) (32 + 4 * (12 + 4 * t)) (32 + 4 * nh_words s) bytes _ _ (sym (map-id _) ∙ c.read_words-2.ensures) (omega arith) (omega arith) (omega arith) (omega arith));
+      scales = read_front 8 (3 * hashes s) _ (24 * hashes s) (32 + 4 * (12 + 4 * t) + 8 * t) (32 + 4 * nh_words s + 8 * hashes s) bytes _ _ (sym (map-id _) ∙ c.read_words-3.ensures) (omega arith) (omega arith) (omega arith) (omega arith);
     }

@@ -1,12 +1,9 @@
-use Rattle.std.proofs.Common.{◌-◌, ◌≤◌, length, drop}
-use Rattle.hash.specs.Hasher.{Sound, Passes}
+use Rattle.std.proofs.Common.{length}
+use Rattle.hash.specs.Hasher.{Passes}
 use Rattle.hash.proofs.Hasher.absorb.Given as goal
 
-abbrev pub invariant-loop-at : goal.invariant-loop-at
-invariant-loop-at l =
-    Sound l.self
-    × (l.at ≤ length l.part)
-    × Passes l.keys l.t l.initial.self l.part (drop l.at l.part) l.self
+abbrev pub invariant-loop-rest : goal.invariant-loop-rest
+invariant-loop-rest l = Passes l.initial.self l.part l.rest l.self
 
-abbrev pub decreases-loop-at : goal.decreases-loop-at
-decreases-loop-at l = length l.part - l.at
+abbrev pub decreases-loop-rest : goal.decreases-loop-rest
+decreases-loop-rest l = length l.rest

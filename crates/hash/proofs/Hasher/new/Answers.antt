@@ -1,12 +1,8 @@
 use Rattle.std.proofs.Common.{refl, arith}
 use Rattle.std.proofs.lemmas.List.{get_or-replicate}
-use Rattle.hash.proofs.Turns.{ones_below}
 use Rattle.hash.proofs.Blocks.{none_waits}
+use Rattle.hash.proofs.Whole.{hashes_le}
 use Rattle.hash.proofs.Hasher.new.Goals as goal
 
 pub returns : goal.returns
-returns c =
-    record {
-      sound = record { fill_fits = omega arith; below = ones_below 6 };
-      holds = λ keys t le i lt more. none_waits keys _ i more refl (get_or-replicate 6 i 1 0 (omega arith));
-    }
+returns c = none_waits c.args.strength _ refl c.new.ensures (λ i lt. get_or-replicate 6 i 1 0 (omega (arith, hashes_le c.args.strength)))
