@@ -7,6 +7,7 @@
 
 use anyhow::anyhow;
 use chacha::ChaCha;
+use hs1::Context;
 use std::env;
 use std::time::Instant;
 use stream::Stream;
@@ -18,10 +19,10 @@ const BYTES: usize = 1_048_576;
 // The nanoseconds that a run of one stream over the buffer took.
 fn one_run<S: Stream>(rt: &HostRuntime, stream: &S, buf: &mut [u8]) -> anyhow::Result<u128> {
     let start = Instant::now(rt)?;
-    match stream.xor(&[7; 32], &[9; 12], 0, buf) {
-        Ok(()) => Ok(start.elapsed(rt)?.as_nanos()),
-        Err(_) => Err(anyhow!("the stream refused")),
-    }
+    stream
+        .xor(&[7; 32], &[9; 12], 0, buf)
+        .map_err(|_| anyhow!("the stream refused"))?;
+    Ok(start.elapsed(rt)?.as_nanos())
 }
 
 // The nanoseconds that sealing the text took.
@@ -32,11 +33,25 @@ fn one_sealing(
     siv: &mut [u8],
     out: &mut [u8],
 ) -> anyhow::Result<u128> {
+    let context = Context {
+        key: &[7; 32],
+        nonce: &[9; 12],
+        header: &[5; 38],
+    };
     let start = Instant::now(rt)?;
-    match seal_suite(suite, &[7; 32], &[9; 12], &[5; 38], text, siv, out) {
-        Ok(()) => Ok(start.elapsed(rt)?.as_nanos()),
-        Err(_) => Err(anyhow!("sealing was refused")),
+    seal_suite(suite, context, text, siv, out).map_err(|_| anyhow!("sealing was refused"))?;
+    Ok(start.elapsed(rt)?.as_nanos())
+}
+
+// The nanoseconds that the best of some runs took.
+fn best<F: FnMut() -> anyhow::Result<u128>>(runs: u32, mut run: F) -> anyhow::Result<u128>
+    requires { F.IsAlwaysCallable run }
+{
+    let mut best = u128::MAX;
+    for _ in 0..runs {
+        best = best.min(run()?);
     }
+    Ok(best)
 }
 
 // The best of some sealings of a text of that length, in bytes per second.
@@ -44,28 +59,19 @@ fn measure_sealing(rt: &HostRuntime, suite: u32, bytes: u32, runs: u32) -> anyho
     let text = vec![in rt.alloc(); 3u8; bytes as usize]?;
     let mut out = vec![in rt.alloc(); 0u8; bytes as usize]?;
     let mut siv = vec![in rt.alloc(); 0u8; 32]?;
-    let mut best = u128::MAX;
-    for _ in 0..runs {
-        best = best.min(one_sealing(rt, suite, &text, &mut siv, &mut out)?);
-    }
+    let best = best(runs, || one_sealing(rt, suite, &text, &mut siv, &mut out))?;
     Ok(u128::from(bytes) * 1_000_000_000 / best.max(1))
 }
 
 // The best of some runs, in bytes per second.
 fn measure<S: Stream>(rt: &HostRuntime, stream: &S, runs: u32) -> anyhow::Result<u128> {
     let mut buf = vec![in rt.alloc(); 0u8; BYTES]?;
-    let mut best = u128::MAX;
-    for _ in 0..runs {
-        best = best.min(one_run(rt, stream, &mut buf)?);
-    }
+    let best = best(runs, || one_run(rt, stream, &mut buf))?;
     Ok(1_048_576_000_000_000 / best.max(1))
 }
 
 fn chacha(rounds: u8) -> anyhow::Result<ChaCha> {
-    match ChaCha::new(rounds) {
-        Ok(stream) => Ok(stream),
-        Err(_) => Err(anyhow!("ChaCha has not that round count")),
-    }
+    ChaCha::new(rounds).map_err(|_| anyhow!("ChaCha has not that round count"))
 }
 
 fn run(rt: &HostRuntime) -> anyhow::Result<()> {

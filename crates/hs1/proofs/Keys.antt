@@ -1,6 +1,6 @@
 -- The subkeys of a key.
 use Rattle.std.proofs.Common.{◌≡◌, ℕ, zero, suc, ◌+◌, ◌-◌, ◌*◌, ◌/◌, ◌%◌, ◌^◌, ◌<◌, ◌≤◌, List, [], ◌∷◌, ◌++◌, length, get_or, take, drop, replicate, sym, refl, ap, ◌∙◌, ⊎_elim, mod-eq_of_lt, suc-mul, zero-mul, arith}
-use native.Mathlib.Nat.{mod-eq-sub-mod, sub-zero}
+use native.Mathlib.Nat.{mod-eq-sub-mod}
 use Rattle.std.proofs.lemmas.List.{length-append, length-take-le, get_or_append_left, get_or-append_right, get_or-take, ext_get_or, take-replicate, drop-replicate, take-append-le, drop-append-le, length-drop}
 use Rattle.std.proofs.lemmas.Bool.{cases_lt}
 use Rattle.hash.specs.declared.Strength.{Strength}
@@ -76,29 +76,28 @@ hashed_by_front s bytes rest m l =
     ∙ ap (λ x. hashed s (kn_of s bytes) (kp_of s bytes) (ints 8 x) m) (part_front c (24 * hashes s) bytes rest (omega arith))
 
 -- what the code masks is the bytes of the subkeys
-pub bytes_are : (f : StreamOf) (s : Strength) (key seed nonce part : List ℕ) (r n : ℕ) → seed ≡ subkey_seed key → nonce ≡ subkey_nonce s r (length key) → r ≡ f.rounds → n ≡ subkey_bytes s → part ≡ masked (f.byte seed nonce) 0 (take (n - 0) (replicate 368 0)) → part ++ drop (n - 0) (replicate 368 0) ≡ subkeys f s key ++ replicate (368 - subkey_bytes s) 0
+pub bytes_are : (f : StreamOf) (s : Strength) (key seed nonce part : List ℕ) (r n : ℕ) → seed ≡ subkey_seed key → nonce ≡ subkey_nonce s r (length key) → r ≡ f.rounds → n ≡ subkey_bytes s → part ≡ masked (f.byte seed nonce) 0 (take n (replicate 368 0)) → part ++ drop n (replicate 368 0) ≡ subkeys f s key ++ replicate (368 - subkey_bytes s) 0
 unfolding subkeys
 bytes_are f s key seed nonce part r n e g h i p =
     let fits = subkeys_fit s in
-    let z : n - 0 ≡ subkey_bytes s = sub-zero n ∙ i in
     let q : part ≡ subkeys f s key =
     p
-    ∙ ap (λ x. masked (f.byte seed nonce) 0 (take x (replicate 368 0))) z
+    ∙ ap (λ x. masked (f.byte seed nonce) 0 (take x (replicate 368 0))) i
     ∙ ap (masked (f.byte seed nonce) 0) (take-replicate (subkey_bytes s) 368 0 fits.1)
     ∙ masked_zeros (f.byte seed nonce) 0 (subkey_bytes s)
     ∙ ap (λ x. run (f.byte x nonce) 0 (subkey_bytes s)) e
     ∙ ap (λ x. run (f.byte (subkey_seed key) x) 0 (subkey_bytes s)) (g ∙ ap (λ x. subkey_nonce s x (length key)) h)
     in
-    ap (λ x. x ++ drop (n - 0) (replicate 368 0)) q
-    ∙ ap (λ x. subkeys f s key ++ drop x (replicate 368 0)) z
+    ap (λ x. x ++ drop n (replicate 368 0)) q
+    ∙ ap (λ x. subkeys f s key ++ drop x (replicate 368 0)) i
     ∙ ap (λ x. subkeys f s key ++ x) (drop-replicate (subkey_bytes s) 368 0)
 
 pub length_subkeys : (f : StreamOf) (s : Strength) (key : List ℕ) → length (subkeys f s key) ≡ subkey_bytes s
 unfolding subkeys
 length_subkeys f s key = length_run (f.byte (subkey_seed key) (subkey_nonce s f.rounds (length key))) 0 (subkey_bytes s)
 
-pub derived : (f : StreamOf) (s : Strength) (key bytes rest ks : List ℕ) (hash : HashKeys) → bytes ≡ subkeys f s key ++ rest → ks ≡ take 32 bytes → Reads s bytes hash → Derived f s key (record { ks = ks; hash = hash })
-derived f s key bytes rest ks hash e k r =
+pub derived : (f : StreamOf) (s : Strength) (key bytes rest ks nonce : List ℕ) (hash : HashKeys) → bytes ≡ subkeys f s key ++ rest → ks ≡ take 32 bytes → Reads s bytes hash → Derived f s key (record { ks = ks; hash = hash; nonce = nonce })
+derived f s key bytes rest ks nonce hash e k r =
     let l = length_subkeys f s key in
     record {
       ks_is = k ∙ ap (take 32) e ∙ take-append-le 32 (subkeys f s key) rest (omega (arith, (subkeys_fit s).0));

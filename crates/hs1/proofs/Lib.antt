@@ -1,5 +1,4 @@
 mod Keys
 mod Strings
 mod Sealing
-mod Checked
 pub mod Laws

@@ -1,10 +1,9 @@
--- Strings compared, exclusive-ored and zeroed.
-use Rattle.std.proofs.Common.{◌≡◌, ℕ, ◌+◌, ◌<◌, ◌≤◌, true, false, eqb, List, [], ◌∷◌, length, get_or, sym, refl, ap, ◌∙◌, ⊎_elim, arith, below_more}
+-- Strings compared and exclusive-ored.
+use Rattle.std.proofs.Common.{◌≡◌, ℕ, Bool, true, false, ◌&&◌, eqb, List, [], ◌∷◌, ◌++◌, length, drop, fold, zip, sym, refl, ap, ◌∙◌, ⊎_elim, append-nil, arith}
 use lib.Bits.{bit_xor, bit_or, xor_self, or_add_and, xor_add_and, and_le_l, and_le_r}
 use lib.Lanes.{zip2}
-use Rattle.std.proofs.lemmas.List.{ext_get_or}
-use Rattle.std.proofs.lemmas.Simd.{get_or-zip2, length-zip2}
-use Rattle.std.proofs.lemmas.Bool.{both_ways, eqb-true, eq-eqb, ne_eqb, and_parts, and_from, cases_eq, cases_Bool}
+use Rattle.std.proofs.lemmas.List.{drop_all}
+use Rattle.std.proofs.lemmas.Bool.{both_ways, eqb-true, eq-eqb, ne_eqb, and_parts, and_from, and_left, and_right, cases_eq}
 use Rattle.hs1.specs.Seal.{same}
 
 pub or_none : (a b : ℕ) → bit_or a b ≡ 0 → (a ≡ 0) × (b ≡ 0)
@@ -25,36 +24,44 @@ pub same_refl : (xs : List ℕ) → same xs xs ≡ true
 same_refl [] = refl
 same_refl (x ∷ xs) = and_from (eqb x x) (same xs xs) (eq-eqb x x refl) (same_refl xs)
 
--- What a loop over both has found: nothing differs exactly where all bytes so far are equal.
-abbrev pub Compared : (a b : List ℕ) (i differ : ℕ) → Type 0
-Compared a b i differ =
-    (differ ≡ 0 → (k : ℕ) → k < i → get_or a k 0 ≡ get_or b k 0)
-    × (((k : ℕ) → k < i → get_or a k 0 ≡ get_or b k 0) → differ ≡ 0)
+-- one more byte of each, looked at: nothing differs where nothing did and the two are equal
+abbrev pub looked_at : ℕ → ℕ × ℕ → ℕ
+looked_at differ p = bit_or differ (bit_xor p.0 p.1)
 
-pub compared_more : (a b : List ℕ) (i differ : ℕ) → Compared a b i differ → Compared a b (i + 1) (bit_or differ (bit_xor (get_or a i 0) (get_or b i 0)))
-compared_more a b i differ h =
-    let x = get_or a i 0 in
-    let y = get_or b i 0 in (
-      (λ e. let p = or_none differ (bit_xor x y) e in below_more (λ k. get_or a k 0 ≡ get_or b k 0) i (h.0 p.0) (xor_none x y p.1)),
-      (λ all.
-          let z : differ ≡ 0 = h.1 (λ k l. all k (omega arith)) in
-          let w : bit_xor x y ≡ 0 = ap (λ v. bit_xor v y) (all i (omega arith)) ∙ xor_self y in
-          ap (λ v. bit_or v (bit_xor x y)) z ∙ w),
-    )
-
-pub compared_all : (a b : List ℕ) (i differ : ℕ) → length a ≡ length b → length a ≤ i → i ≤ length a → Compared a b i differ → eqb differ 0 ≡ same a b
-compared_all a b i differ l le ge h =
+pub looked_more : (d x y : ℕ) → eqb (bit_or d (bit_xor x y)) 0 ≡ (eqb d 0 && eqb x y)
+looked_more d x y =
     ⊎_elim
-    (λ (z : differ ≡ 0).
-    let e : a ≡ b = ext_get_or 0 a b l (λ k lt. h.0 z k (omega arith)) in
-    eq-eqb differ 0 z ∙ sym (ap (λ x. same x b) e ∙ same_refl b))
+    (λ (z : d ≡ 0).
+    ⊎_elim
+    (λ (w : x ≡ y).
+    eq-eqb (bit_or d (bit_xor x y)) 0 (ap (λ v. bit_or v (bit_xor x y)) z ∙ ap (λ v. bit_xor v y) w ∙ xor_self y)
+    ∙ sym (and_from (eqb d 0) (eqb x y) (eq-eqb d 0 z) (eq-eqb x y w)))
     (λ ne.
-    ne_eqb differ 0 ne
-    ∙ sym (⊎_elim (λ (t : same a b ≡ true). absurd (ne (h.1 (λ k lt. ap (λ x. get_or x k 0) (same_is a b t))))) (λ (f : same a b ≡ false). f) (cases_Bool (same a b))))
-    (cases_eq differ 0)
+    ne_eqb (bit_or d (bit_xor x y)) 0 (λ e. ne (xor_none x y (or_none d (bit_xor x y) e).1))
+    ∙ sym (and_right (eqb d 0) (eqb x y) (ne_eqb x y ne)))
+    (cases_eq x y))
+    (λ ne.
+    ne_eqb (bit_or d (bit_xor x y)) 0 (λ e. ne (or_none d (bit_xor x y) e).0)
+    ∙ sym (and_left (eqb d 0) (eqb x y) (ne_eqb d 0 ne)))
+    (cases_eq d 0)
 
-pub xored : (a b out : List ℕ) → length a ≡ 32 → length b ≡ 32 → length out ≡ 32 → ((k : ℕ) → k < 32 → get_or out k 0 ≡ bit_xor (get_or a k 0) (get_or b k 0)) → out ≡ zip2 bit_xor a b
-xored a b out la lb lo at =
-    let n : length a ≡ length b = omega arith in
-    ext_get_or 0 out (zip2 bit_xor a b) (lo ∙ sym la ∙ sym (length-zip2 bit_xor a b n))
-    (λ i h. at i (omega arith) ∙ sym (get_or-zip2 bit_xor a b i 0 0 0 (omega arith) (omega arith)))
+and_true : (b : Bool) → (b && true) ≡ b
+and_true true = refl
+and_true false = refl
+
+and_assoc : (a b c : Bool) → ((a && b) && c) ≡ (a && (b && c))
+and_assoc true b c = refl
+and_assoc false b c = refl
+
+pub looked_all : (a b : List ℕ) (d : ℕ) → length a ≡ length b → eqb (fold looked_at d (zip a b)) 0 ≡ (eqb d 0 && same a b)
+looked_all [] [] d l = sym (and_true (eqb d 0))
+looked_all [] (y ∷ ys) d l = absurd (omega arith)
+looked_all (x ∷ xs) [] d l = absurd (omega arith)
+looked_all (x ∷ xs) (y ∷ ys) d l =
+    looked_all xs ys (bit_or d (bit_xor x y)) (omega arith)
+    ∙ ap (λ b. b && same xs ys) (looked_more d x y)
+    ∙ and_assoc (eqb d 0) (eqb x y) (same xs ys)
+
+-- two strings of one length, exclusive-ored
+pub xor_whole : (a b : List ℕ) → length a ≡ 32 → length b ≡ 32 → zip2 bit_xor a b ++ drop (length b) a ≡ zip2 bit_xor a b
+xor_whole a b k l = ap (λ x. zip2 bit_xor a b ++ x) (drop_all (length b) a (omega arith)) ∙ append-nil (zip2 bit_xor a b)

@@ -29,7 +29,7 @@ OpensBy (Some q) key nonce header iv cipher was after r =
     Opens (open_checks (table q).strength (length key) (length nonce) (length header) (length cipher) (length iv) (length was))
     (opened (table q).stream (table q).strength key nonce header iv cipher) (length cipher) was after r
 
--- The number that a C program gets for an answer: 0 for done, else the refusal's.
+-- The number that an answer is given as: 0 for done, else the refusal's.
 abbrev pub code : Result (Unit {0}) Refusal → ℕ
 code (Ok done) = 0
 code (Err why) = number_of why

@@ -1,2 +1,3 @@
 pub mod Suites
+pub mod Bytes
 pub mod Calls

@@ -1,11 +1,14 @@
-//! The static library that a C program links: the calls of `suites` under their
-//! C names. Each slice is a pointer and a length there; include/koqarpi.h
-//! declares them and says what they need.
+//! The static library that a C program links: bare sealing and opening by
+//! suite number under their C names. Each slice is a pointer and a length
+//! there; include/koqarpi.h declares them and says what they need.
 
 #![tactic(auto)]
 
 ghost use Rattle.suites.specs.Suites.{suite as suite_of};
 ghost use Rattle.suites.specs.Calls.{SealsBy, OpensBy, Coded};
+
+use hs1::Context;
+use suites::{code, open_suite, seal_suite};
 
 // Seals a text by the suite of that number.
 #[unsafe(no_mangle)]
@@ -20,7 +23,8 @@ pub extern "C" fn koqarpi_seal(
 ) -> u8
     ensures { Coded (SealsBy (suite_of suite) key.now nonce.now header.now text.now siv_out.old siv_out.new out.old out.new) result }
 {
-    suites::koqarpi_seal(suite, key, nonce, header, text, siv_out, out)
+    let context = Context { key, nonce, header };
+    code(seal_suite(suite, context, text, siv_out, out))
 }
 
 // Opens a ciphertext by the suite of that number.
@@ -36,5 +40,6 @@ pub extern "C" fn koqarpi_open(
 ) -> u8
     ensures { Coded (OpensBy (suite_of suite) key.now nonce.now header.now siv.now ciphertext.now out.old out.new) result }
 {
-    suites::koqarpi_open(suite, key, nonce, header, siv, ciphertext, out)
+    let context = Context { key, nonce, header };
+    code(open_suite(suite, context, siv, ciphertext, out))
 }

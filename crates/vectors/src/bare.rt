@@ -1,9 +1,10 @@
 //! Cases of bare sealing and opening by suite number.
 
 use crate::hex::decode;
-use refusal::Refusal;
+use anyhow::anyhow;
+use hs1::Context;
 use std::alloc::{AllocError, Global};
-use suites::{open_suite, seal_suite};
+use suites::{code, open_suite, seal_suite};
 
 // What a call is made with. `input` is the text or the ciphertext.
 #[derive(Drop)]
@@ -18,14 +19,6 @@ struct Inputs {
 // A buffer before or after a call, filled with a byte that no call writes by chance.
 fn filled(heap: Global, len: usize) -> Result<Vec<u8>, AllocError> {
     vec![in heap; 0xaau8; len]
-}
-
-// The number of an answer: 0 for done.
-fn number(answer: Result<(), Refusal>) -> u8 {
-    match answer {
-        Ok(()) => 0,
-        Err(why) => why.number(),
-    }
 }
 
 impl Inputs {
@@ -46,34 +39,30 @@ impl Inputs {
         })
     }
 
-    fn seal(&self, siv: &mut [u8], out: &mut [u8]) -> u8 {
-        number(seal_suite(
-            self.suite,
-            &self.key,
-            &self.nonce,
-            &self.header,
-            &self.input,
-            siv,
-            out,
-        ))
+    fn context(&self) -> Context<'_> {
+        Context {
+            key: &self.key,
+            nonce: &self.nonce,
+            header: &self.header,
+        }
     }
 
+    // Seals the text, and gives the number of the answer.
+    fn seal(&self, siv: &mut [u8], out: &mut [u8]) -> u8 {
+        code(seal_suite(self.suite, self.context(), &self.input, siv, out))
+    }
+
+    // Opens the ciphertext, and gives the number of the answer.
     fn open(&self, siv: &[u8], out: &mut [u8]) -> u8 {
-        number(open_suite(
-            self.suite,
-            &self.key,
-            &self.nonce,
-            &self.header,
-            siv,
-            &self.input,
-            out,
-        ))
+        code(open_suite(self.suite, self.context(), siv, &self.input, out))
     }
 }
 
 // Whether sealing gives that SIV and ciphertext, and opening gives the text back.
-pub fn both_ways(heap: Global, fields: &[&str; 7]) -> anyhow::Result<bool> {
-    let [suite, key, nonce, header, text, siv, cipher] = *fields;
+pub fn both_ways(heap: Global, case: &[&str]) -> anyhow::Result<bool> {
+    let [suite, key, nonce, header, text, siv, cipher] = case else {
+        return Err(anyhow!("a line that is no case of sealing and opening"));
+    };
     let siv = decode(heap, siv)?;
     let sealing = Inputs::read(heap, suite, key, nonce, header, text)?;
     let opening = Inputs::read(heap, suite, key, nonce, header, cipher)?;
@@ -97,8 +86,14 @@ struct Outcome {
 }
 
 impl Outcome {
-    fn read(heap: Global, fields: &[&str; 5]) -> anyhow::Result<Outcome> {
-        let [siv_room, out_room, refused, siv_after, out_after] = *fields;
+    fn read(
+        heap: Global,
+        siv_room: &str,
+        out_room: &str,
+        refused: &str,
+        siv_after: &str,
+        out_after: &str,
+    ) -> anyhow::Result<Outcome> {
         Ok(Outcome {
             siv_room: siv_room.parse::<usize>()?,
             out_room: out_room.parse::<usize>()?,
@@ -109,11 +104,14 @@ impl Outcome {
     }
 }
 
-// Whether sealing answers so and leaves the two buffers so.
-pub fn seals(heap: Global, call: &[&str; 5], after: &[&str; 5]) -> anyhow::Result<bool> {
-    let [suite, key, nonce, header, text] = *call;
+// Whether sealing answers so and leaves the two buffers so. The SIV of the
+// case is not looked at.
+pub fn seals(heap: Global, case: &[&str]) -> anyhow::Result<bool> {
+    let [suite, key, nonce, header, text, _, a, b, c, d, e] = case else {
+        return Err(anyhow!("a line that is no case of sealing"));
+    };
     let inputs = Inputs::read(heap, suite, key, nonce, header, text)?;
-    let expected = Outcome::read(heap, after)?;
+    let expected = Outcome::read(heap, a, b, c, d, e)?;
     let mut siv = filled(heap, expected.siv_room)?;
     let mut out = filled(heap, expected.out_room)?;
     let answer = inputs.seal(&mut siv, &mut out);
@@ -125,10 +123,12 @@ pub fn seals(heap: Global, call: &[&str; 5], after: &[&str; 5]) -> anyhow::Resul
 }
 
 // Whether opening answers so and leaves the buffer so.
-pub fn opens(heap: Global, call: &[&str; 5], siv: &str, after: &[&str; 5]) -> anyhow::Result<bool> {
-    let [suite, key, nonce, header, cipher] = *call;
+pub fn opens(heap: Global, case: &[&str]) -> anyhow::Result<bool> {
+    let [suite, key, nonce, header, cipher, siv, a, b, c, d, e] = case else {
+        return Err(anyhow!("a line that is no case of opening"));
+    };
     let inputs = Inputs::read(heap, suite, key, nonce, header, cipher)?;
-    let expected = Outcome::read(heap, after)?;
+    let expected = Outcome::read(heap, a, b, c, d, e)?;
     let mut out = filled(heap, expected.out_room)?;
     let answer = inputs.open(&decode(heap, siv)?, &mut out);
     Ok(answer == expected.refused && out.as_slice() == expected.out_after.as_slice())

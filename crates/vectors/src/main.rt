@@ -24,12 +24,13 @@ mod hex;
 use aes::{Aes256, encrypt_block};
 use anyhow::anyhow;
 use chacha::ChaCha;
-use hex::{decode, encode};
+use hex::{decode, decode_array, encode};
 use std::alloc::Global;
+use std::fmt;
 use stream::Stream;
 
 // How many of a group's cases agree.
-#[derive(Clone, Copy)]
+#[derive(Clone, Copy, Default)]
 struct Tally {
     cases: u32,
     agree: u32,
@@ -38,9 +39,13 @@ struct Tally {
 impl Tally {
     fn count(&mut self, agrees: bool) {
         self.cases = self.cases.saturating_add(1);
-        if agrees {
-            self.agree = self.agree.saturating_add(1);
-        }
+        self.agree = self.agree.saturating_add(u32::from(agrees));
+    }
+}
+
+impl fmt::Display for Tally {
+    fn fmt<W: fmt::Write>(&self, f: &mut fmt::Formatter<W>) -> fmt::Result {
+        write!(f, "{} of {} agree", self.agree, self.cases)
     }
 }
 
@@ -52,20 +57,7 @@ fn chacha(name: &str) -> anyhow::Result<ChaCha> {
         "chacha20" => 20,
         _ => return Err(anyhow!("no stream has that name")),
     };
-    match ChaCha::new(rounds) {
-        Ok(stream) => Ok(stream),
-        Err(_) => Err(anyhow!("ChaCha has not that round count")),
-    }
-}
-
-// Bytes as an array, where there are as many as it has.
-fn array<const N: usize>(bytes: &[u8]) -> anyhow::Result<[u8; N]> {
-    if bytes.len() != N {
-        return Err(anyhow!("a field of the wrong length"));
-    }
-    let mut out = [0; N];
-    out.copy_from_slice(bytes);
-    Ok(out)
+    ChaCha::new(rounds).map_err(|_| anyhow!("ChaCha has not that round count"))
 }
 
 // A case of a stream: what is masked, with what, and what it should become.
@@ -103,8 +95,8 @@ fn make_masking(
     expected: &str,
 ) -> anyhow::Result<Masking> {
     Ok(Masking {
-        seed: array(&decode(heap, seed)?)?,
-        nonce: array(&decode(heap, nonce)?)?,
+        seed: decode_array(heap, seed)?,
+        nonce: decode_array(heap, nonce)?,
         place: place.parse::<u32>()?,
         text,
         expected: decode(heap, expected)?,
@@ -119,8 +111,8 @@ fn stream_agrees(heap: Global, fields: &[&str]) -> anyhow::Result<bool> {
             masks(name, make_masking(heap, seed, nonce, place, text, masked)?)
         }
         ["block", "aes256", key, text, encrypted] => {
-            let key = array(&decode(heap, key)?)?;
-            let block = encrypt_block(&key, &array(&decode(heap, text)?)?);
+            let key = decode_array(heap, key)?;
+            let block = encrypt_block(&key, &decode_array(heap, text)?);
             Ok(&block[..] == decode(heap, encrypted)?.as_slice())
         }
         [name, seed, nonce, place, bytes] => {
@@ -131,71 +123,21 @@ fn stream_agrees(heap: Global, fields: &[&str]) -> anyhow::Result<bool> {
     }
 }
 
-// Whether sealing with those arguments does what it should.
-fn seal_agrees(heap: Global, fields: &[&str]) -> anyhow::Result<bool> {
-    match fields {
-        ["seal", suite, key, nonce, header, text, _, a, b, c, d, e] => {
-            bare::seals(heap, &[suite, key, nonce, header, text], &[a, b, c, d, e])
-        }
-        _ => Err(anyhow!("a line that is no case of sealing")),
-    }
-}
-
-// Whether opening with those arguments does what it should.
-fn open_agrees(heap: Global, fields: &[&str]) -> anyhow::Result<bool> {
-    match fields {
-        [
-            "open",
-            suite,
-            key,
-            nonce,
-            header,
-            cipher,
-            siv,
-            a,
-            b,
-            c,
-            d,
-            e,
-        ] => {
-            bare::opens(
-                heap,
-                &[suite, key, nonce, header, cipher],
-                siv,
-                &[a, b, c, d, e],
-            )
-        }
-        _ => Err(anyhow!("a line that is no case of opening")),
-    }
-}
-
-// Whether sealing and opening again does what it should.
-fn bare_agrees(heap: Global, fields: &[&str]) -> anyhow::Result<bool> {
-    match fields {
-        ["bare", suite, key, nonce, header, text, siv, cipher] => {
-            bare::both_ways(heap, &[suite, key, nonce, header, text, siv, cipher])
-        }
-        _ => Err(anyhow!("a line that is no case of sealing and opening")),
-    }
-}
-
 // Whether a case agrees.
 fn agrees(heap: Global, line: &str) -> anyhow::Result<bool> {
     let fields: Vec<&str> = line.split(' ').collect(heap)?;
-    let fields = fields.as_slice();
-    match fields {
-        ["seal", ..] => seal_agrees(heap, fields),
-        ["open", ..] => open_agrees(heap, fields),
-        ["bare", ..] => bare_agrees(heap, fields),
-        _ => stream_agrees(heap, fields),
+    match fields.as_slice() {
+        ["seal", case @ ..] => bare::seals(heap, case),
+        ["open", case @ ..] => bare::opens(heap, case),
+        ["bare", case @ ..] => bare::both_ways(heap, case),
+        case => stream_agrees(heap, case),
     }
 }
 
 // Prints what became of a group.
 fn report(rt: &HostRuntime, title: &str, tally: Tally) -> anyhow::Result<()> {
-    let Tally { cases, agree } = tally;
-    if cases > 0 {
-        println!(rt; "{title}: {agree} of {cases} agree")?;
+    if tally.cases > 0 {
+        println!(rt; "{title}: {tally}")?;
     }
     Ok(())
 }
@@ -203,13 +145,13 @@ fn report(rt: &HostRuntime, title: &str, tally: Tally) -> anyhow::Result<()> {
 // Runs the cases on standard input, group by group.
 fn run_cases(rt: &HostRuntime) -> anyhow::Result<()> {
     let mut title = String::new(rt.alloc());
-    let mut tally = Tally { cases: 0, agree: 0 };
+    let mut tally = Tally::default();
     for line in rt.lines(rt.alloc()) {
         let line = line?;
         match line.as_str().strip_prefix("# ") {
             Some(name) => {
                 report(rt, title.as_str(), tally)?;
-                tally = Tally { cases: 0, agree: 0 };
+                tally = Tally::default();
                 title = String::from_str(rt.alloc(), name)?;
             }
             None => tally.count(agrees(rt.alloc(), line.as_str())?),
