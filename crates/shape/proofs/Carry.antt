@@ -1,6 +1,6 @@
 -- From an answer for what is left after a part p to an answer for the whole, for any two sets of writings.
-use Rattle.std.proofs.Common.{◌≡◌, ℕ, ◌+◌, ◌<◌, ◌≤◌, List, [], ◌∷◌, ◌++◌, length, get_or, drop, Ok, Err, Result, sym, refl, ap, ◌∙◌, append_assoc, arith, length-append}
-use Rattle.std.proofs.lemmas.List.{append-nil, drop-drop, drop_more}
+use Rattle.std.proofs.Common.{◌≡◌, ℕ, ◌+◌, ◌-◌, ◌<◌, ◌≤◌, List, [], ◌∷◌, ◌++◌, length, get_or, take, drop, Ok, Err, Result, sym, refl, ap, ◌∙◌, append_assoc, arith, length-append}
+use Rattle.std.proofs.lemmas.List.{append-nil, drop-drop, drop_more, take_rest, length-drop, get_or-drop}
 use Rattle.std.proofs.lemmas.List.Prefix.{front_fits}
 use Rattle.shape.specs.Outcome.{Read, Fault, Outcome, shift, Carries}
 
@@ -68,9 +68,21 @@ carries_more G s m n k e a b r o =
 pub read_fits : (G : List ℕ → Type 0) (s : List ℕ) (n : ℕ) → Read G s n → n ≤ length s
 read_fits G s n o = omega (arith, front_fits s o.front o.back o.cut, o.long)
 
-pub fault_fits : (G : List ℕ → Type 0) (s : List ℕ) (n : ℕ) → Fault G s n → n ≤ length s
-fault_fits G s n o = omega (arith, front_fits s o.front o.back o.cut, o.long)
-
 -- the byte at a place, and what is left after it
 pub drop_byte : (s : List ℕ) (at c : ℕ) → at < length s → get_or s at 0 ≡ c → drop at s ≡ c ∷ drop (at + 1) s
 drop_byte s at c l e = drop_more s at 0 l ∙ ap (λ z. z ∷ drop (at + 1) s) e
+
+-- the byte that what is left begins with, as a reader of it finds it
+pub rest_byte : (s : List ℕ) (at c : ℕ) → 1 ≤ length (take (length s - at) (drop at s)) → get_or (take (length s - at) (drop at s)) 0 0 ≡ c → (at < length s) × (drop at s ≡ c ∷ drop (at + 1) s) × (get_or s at 0 ≡ c)
+rest_byte s at c l e =
+    let more : at < length s = omega (arith, ap length (take_rest s at), length-drop at s) in
+    let first : get_or s at 0 ≡ c = ap (λ i. get_or s i 0) (omega arith) ∙ sym (get_or-drop at s 0 0) ∙ ap (λ z. get_or z 0 0) (sym (take_rest s at)) ∙ e in
+    (more, drop_byte s at c more first, first)
+
+-- what is left after that byte
+pub rest_after : (s : List ℕ) (at : ℕ) → take (length (take (length s - at) (drop at s)) - 1) (drop 1 (take (length s - at) (drop at s))) ≡ drop (at + 1) s
+rest_after s at = take_rest (take (length s - at) (drop at s)) 1 ∙ ap (λ z. drop 1 z) (take_rest s at) ∙ drop-drop 1 at s
+
+pub byte_rest : (s : List ℕ) (at c : ℕ) → at < length s → get_or s at 0 ≡ c → (1 ≤ length (take (length s - at) (drop at s))) × (get_or (take (length s - at) (drop at s)) 0 0 ≡ c)
+byte_rest s at c l e =
+    (omega (arith, ap length (take_rest s at), length-drop at s), ap (λ z. get_or z 0 0) (take_rest s at ∙ drop_byte s at c l e))

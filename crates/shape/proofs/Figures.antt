@@ -1,16 +1,16 @@
 -- The digits of a natural number: what the readers and the writers of numbers need of them.
-use Rattle.std.proofs.Common.{◌≡◌, ℕ, ◌+◌, ◌-◌, ◌*◌, ◌/◌, ◌%◌, ◌^◌, ◌<◌, ◌≤◌, List, [], ◌∷◌, ◌++◌, length, get_or, take, drop, set, decimal, sym, ap, ◌∙◌, inl, inr, append_assoc, arith, rules}
+use Rattle.std.proofs.Common.{◌≡◌, ℕ, zero, suc, ◌+◌, ◌-◌, ◌*◌, ◌/◌, ◌%◌, ◌^◌, ◌<◌, ◌≤◌, List, [], ◌∷◌, ◌++◌, length, get_or, take, drop, set, decimal, Option, Some, None, sym, ap, ◌∙◌, inl, inr, ⊎_elim, append_assoc, arith, rules}
 use Rattle.std.specs.Str.Parse.{AllDigits, digits_value}
 use Rattle.std.specs.Char.{digit_value as digitValue}
 use Rattle.std.specs.List.{AllByRecursion}
 use Rattle.std.proofs.lemmas.Int.Digits.{digits_value_more}
-use Rattle.std.proofs.lemmas.List.{take_all, length-take, length_push, drop_more, set_at}
+use Rattle.std.proofs.lemmas.List.{take_all, length-take, length_push, length-set, drop-set}
 use Rattle.std.proofs.lemmas.Bool.Decides.{nat_tests}
 use Rattle.std.proofs.lemmas.Str.Parse.{IsNumeralModel, numerals_by_value, tells_digits, digit_from_value, digits_value_short}
 use Rattle.std.proofs.lemmas.Fmt.{decimal_from_appends, AppendsLastDigit, length-decimal-le, decimal_nonempty, first_decimal, digits_decimal, decimal-digits_value, decimal_injective, decimal_digit, decimal_step}
-use Rattle.std.proofs.lemmas.Bool.{cases_eq}
+use Rattle.std.proofs.lemmas.Bool.{cases_eq, cases_lt}
 use Rattle.std.proofs.ByRecursion.{All-take, All-get_or}
-use Rattle.shape.specs.Decimal.{spelled, figures}
+use Rattle.shape.specs.Decimal.{spelled, figures, WritesFigures}
 use Rattle.shape.specs.Form.{Digit, Unsigned}
 use Rattle.shape.specs.Limits.{most_digits, bound}
 
@@ -42,6 +42,13 @@ length_more n l h = ap length (figures_more n l h) ∙ length_push (figures (n /
 
 pub length_one : (n : ℕ) → n < 10 → length (figures n) ≡ 1
 length_one n h = ap length (figures_one n h)
+
+-- one more than the logarithm, rounded down
+pub count_by_log : (k n : ℕ) → 10 ^ k ≤ n → n < 10 * 10 ^ k → n < 2 ^ 64 → length (figures n) ≡ k + 1
+count_by_log zero n l h m = length_one n (omega arith)
+count_by_log (suc k) n l h m =
+    let q : n / 10 < 2 ^ 64 = omega arith in
+    omega (arith, length_more n (omega arith) m, count_by_log k (n / 10) (omega arith) (omega arith) q)
 
 pub length_figures : (k n : ℕ) → 0 < k → n < 10 ^ k → n < 2 ^ 64 → length (figures n) ≤ k
 length_figures k n z h l = omega (arith, ap length (figures_are n l), length-decimal-le k n z h l)
@@ -96,15 +103,38 @@ whole_value t i n u l e =
     let v : n ≡ digits_value 10 t = e ∙ ap (digits_value 10) (take_all i t l) in
     rw v (unsigned_value t u)
 
--- the writer's steps
-pub put_one : (out : List ℕ) (n : ℕ) → n < 10 → length (figures n) ≤ length out → set out 0 (48 + n) ≡ figures n ++ drop (length (figures n)) out
-put_one [] n h l = absurd (omega (arith, length_one n h))
-put_one (x ∷ out) n h l = rw (figures_one n h)
+-- The writer's steps, from the last place to the first: `rest` has the figures of the first `place` bytes, and with them `out` is `final`.
+abbrev pub Remains : (final out : List ℕ) → (rest place : ℕ) → Type 0
+Remains final out rest place = (rest < 2 ^ 32) × (place ≤ length out) × (0 < place → (place ≡ length (figures rest)) × (figures rest ++ drop place out ≡ final)) × (place ≡ 0 → out ≡ final)
 
-pub put_more : (was mid : List ℕ) (n k : ℕ) → 10 ≤ n → n < 2 ^ 64 → length (figures n) ≤ length was → k ≡ length (figures (n / 10)) → mid ≡ figures (n / 10) ++ drop (length (figures (n / 10))) was → set mid k (48 + n % 10) ≡ figures n ++ drop (length (figures n)) was
-put_more was mid n k l h room e is =
-    let w = figures (n / 10) in
-    let x = 48 + n % 10 in
-    let lt : length w < length was = omega (arith, length_more n l h) in
-    let m : mid ≡ w ++ (get_or was (length w) 0 ∷ drop (length w + 1) was) = is ∙ ap (λ d. w ++ d) (drop_more was (length w) 0 lt) in
-    ap (λ y. set y k x) m ∙ set_at w (get_or was (length w) 0) (drop (length w + 1) was) x k (sym e) ∙ rw (figures_more n l h, append_assoc, length_push)
+pub length_some : (n : ℕ) → n < 2 ^ 64 → 0 < length (figures n)
+length_some n h = rw (figures_are n h) (decimal_nonempty n h)
+
+pub next_place : (final out : List ℕ) (rest place : ℕ) → 0 < place → Remains final out rest place → Remains final (set out (place - 1) (48 + rest % 10)) (rest / 10) (place - 1)
+next_place final out rest place z r =
+    let x = 48 + rest % 10 in
+    let small : rest < 2 ^ 64 = omega (arith, r.0) in
+    let smaller : rest / 10 < 2 ^ 64 = omega (arith, r.0) in
+    let is = r.2 z in
+    let lt : place - 1 < length out = omega (arith, r.1) in
+    let k : place - 1 + 1 ≡ place = omega arith in
+    let put : drop (place - 1) (set out (place - 1) x) ≡ x ∷ drop place out = drop-set out (place - 1) x lt ∙ ap (λ i. x ∷ drop i out) k in
+    let more : 0 < place - 1 → 10 ≤ rest = λ h. ⊎_elim (λ (d : rest < 10). absurd (omega (arith, is.0, length_one rest d))) (λ (d : 10 ≤ rest). d) (cases_lt rest 10) in
+    let last : place - 1 ≡ 0 → rest < 10 = λ h. ⊎_elim (λ (d : rest < 10). d) (λ (d : 10 ≤ rest). absurd (omega (arith, is.0, length_more rest d small, length_some (rest / 10) smaller))) (cases_lt rest 10) in (
+      omega (arith, r.0),
+      simp length-set (omega (arith, r.1)),
+      (λ h.
+          let d = more h in
+          let e : figures (rest / 10) ++ (x ∷ drop place out) ≡ figures rest ++ drop place out = sym (append_assoc (figures (rest / 10)) (x ∷ []) (drop place out)) ∙ ap (λ y. y ++ drop place out) (sym (figures_more rest d small)) in
+          (omega (arith, is.0, length_more rest d small), ap (λ y. figures (rest / 10) ++ y) put ∙ e ∙ is.1)),
+      λ h.
+          let d = last h in
+          let e : drop (place - 1) (set out (place - 1) x) ≡ set out (place - 1) x = ap (λ i. drop i (set out (place - 1) x)) h in
+          let f : x ∷ [] ≡ figures rest = ap (λ y. (48 + y) ∷ []) (omega arith) ∙ sym (figures_one rest d) in
+          sym e ∙ put ∙ ap (λ y. y ++ drop place out) f ∙ is.1,
+    )
+
+-- where there is room, the figures are written
+pub written_where_room : (n : ℕ) (before after : List ℕ) (o : Option ℕ) → length (figures n) ≤ length before → WritesFigures n before after o → after ≡ figures n ++ drop (length (figures n)) before
+written_where_room n before after (Some k) room w = rw (← w.0) w.2
+written_where_room n before after None room w = absurd (omega (arith, w.0))

@@ -1,9 +1,12 @@
 -- The number at the front of a text.
-use Rattle.std.proofs.Common.{◌≡◌, ℕ, zero, suc, ◌-◌, ◌<◌, ◌≤◌, ◌⊎◌, List, [], ◌∷◌, ◌++◌, length, get_or, take, drop, ℤ, Some, None, Ok, Err, sym, refl, ap, ◌∙◌, subst, inl, inr, ⊎_elim, arith, length-append}
-use Rattle.std.proofs.lemmas.Bool.{cases_order}
+use Rattle.std.proofs.Common.{◌≡◌, ℕ, zero, suc, ◌-◌, ◌<◌, ◌≤◌, ◌⊎◌, List, [], ◌∷◌, ◌++◌, length, get_or, take, drop, ℤ, Option, Some, None, Ok, Err, Result, false, cond, ◌==◌, sym, refl, ap, ◌∙◌, subst, inl, inr, ⊎_elim, arith, length-append}
+use Rattle.std.proofs.lemmas.Bool.{cases_order, cases_Bool, false≢true}
+use Rattle.std.proofs.lemmas.Bool.Decides.{nat_tests}
+use Rattle.std.specs.Result.{is_ok}
 use Rattle.std.proofs.lemmas.List.{take_all, take_at, length-take-le, get_or-take, get_or-append-add}
 use Rattle.std.proofs.ByRecursion.{All-get_or}
 use Rattle.shape.specs.Decimal.{digits, InRange, LongestNumber, LeadsNumber, ReadsNumber}
+use Rattle.shape.specs.declared.value.Leading.{Leading}
 use Rattle.shape.specs.Form.{Digit, Number, Unsigned}
 use Rattle.shape.specs.Token.{Token}
 use Rattle.shape.proofs.Tokens.{all_front, munch_longest}
@@ -31,6 +34,11 @@ none_leads s n t m fits g =
   where
     shorter : m < n → ⊥
     shorter l = ⊎_elim (λ few. no_text (let z : m ≡ 0 = omega (arith, length-take-le n s t.0.fits) in rw z at g)) t.1 (begun (take n s) t.0.begins.0 t.0.begins.1)
+
+-- and so where its reader found none
+pub no_number_leads : (s : List ℕ) (r : Result ℕ ℕ) → Token Number s r → false ≡ is_ok r → LeadsNumber s None
+no_number_leads s (Ok n) t e = absurd (false≢true e)
+no_number_leads s (Err n) t e = none_leads s n t
 
 number_some : (t : List ℕ) → Number t → 0 < length t
 number_some t g = ⊎_elim (λ u. u.0) (λ q. omega (arith, ap length q.3)) g
@@ -67,6 +75,18 @@ whole_other s z n o other y h e = o.longest (length s) (omega (arith, o.fits)) (
 
 pub whole_none : (s : List ℕ) → LeadsNumber s None → ReadsNumber s None
 whole_none s o y h e = o (length s) (omega arith) (rw (take_all (length s) s (omega arith), e) (digits_number y h))
+
+-- what the reader of a whole text makes of the number at its front
+abbrev pub whole : List ℕ → Option (Leading ℤ) → Option ℤ
+whole s None = None
+whole s (Some x) = cond (x.len == length s) (Some x.value) None
+
+pub whole_reads : (s : List ℕ) (o : Option (Leading ℤ)) → LeadsNumber s o → ReadsNumber s (whole s o)
+whole_reads s None o = whole_none s o
+whole_reads s (Some x) o = elim (cases_Bool (x.len == length s)) [
+  | inl e ↦ let n : x.len ≡ length s = grind (arith, nat_tests) in rw e (whole_is s x.value x.len o n)
+  | inr e ↦ let n : x.len ≡ length s → ⊥ = λ h. grind (arith, nat_tests) in rw e (whole_other s x.value x.len o n)
+]
 
 -- after the first byte of a number there are only digits
 number_digit : (t : List ℕ) (i : ℕ) → Number t → 0 < i → i < length t → Digit (get_or t i 0)

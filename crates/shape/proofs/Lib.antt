@@ -1,3 +1,4 @@
+pub mod Runs
 pub mod Carry
 pub mod Tokens
 pub mod Agree

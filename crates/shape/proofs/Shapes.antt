@@ -1,11 +1,13 @@
 -- A well-shaped line is a form at most `deepest` deep and a line end: what its reader answers.
-use Rattle.std.proofs.Common.{◌≡◌, ℕ, ◌+◌, ◌<◌, ◌≤◌, List, [], ◌∷◌, ◌++◌, length, get_or, sym, refl, ap, ◌∙◌}
-use Rattle.shape.specs.Column.{Column}
-use Rattle.shape.specs.Form.{WellShaped, Forms}
+use Rattle.std.proofs.Common.{◌≡◌, ℕ, ◌+◌, ◌<◌, ◌≤◌, List, [], ◌∷◌, ◌++◌, length, get_or, Ok, Err, Result, false, sym, refl, ap, ◌∙◌}
+use Rattle.std.specs.Result.{is_ok}
+use Rattle.std.proofs.lemmas.Bool.{false≢true}
+use Rattle.shape.specs.Column.{Column, OneColumn, Verdict}
+use Rattle.shape.specs.Form.{WellShaped, Forms, Unique}
 use Rattle.shape.specs.Limits.{deepest}
-use Rattle.shape.specs.Outcome.{Read, Fault}
-use Rattle.shape.proofs.Agree.{same_form}
-use Rattle.shape.proofs.Columns.{column_like}
+use Rattle.shape.specs.Outcome.{Read, Fault, Outcome}
+use Rattle.shape.proofs.Agree.{same_form, unique}
+use Rattle.shape.proofs.Columns.{column_like, one_column}
 use Rattle.shape.proofs.Lines.{Apart, Line, line_fault, line_other, line_long, line_ok}
 
 pub forms_apart : (d : ℕ) → Apart (Forms d)
@@ -16,6 +18,9 @@ line_shaped l p = (p.1.0, p.1.1, p.2 ∙ ap (λ z. z ++ 10 ∷ []) p.1.2)
 
 pub shaped_line : (l : List ℕ) → WellShaped l → Line (Forms deepest) l
 shaped_line l p = (_, (p.0, p.1, refl), p.2)
+
+pub one_reading : Unique × OneColumn WellShaped
+one_reading = (unique, one_column WellShaped)
 
 module _ (l : List ℕ) (n : ℕ) where
   shaped : (c : ℕ) → (Line (Forms deepest) l → ⊥) × Column (Line (Forms deepest)) l c → (WellShaped l → ⊥) × Column WellShaped l c
@@ -34,3 +39,12 @@ module _ (l : List ℕ) (n : ℕ) where
 
       pub verdict_ok : length l ≤ n + 1 → WellShaped l
       verdict_ok few = line_shaped l (line_ok (Forms deepest) (forms_apart deepest) l n o within line_end few)
+
+-- the column of a fault in the form
+abbrev pub column_of : Result ℕ ℕ → Result (Unit {0}) ℕ
+column_of (Ok n) = Ok tt
+column_of (Err n) = Err (n + 1)
+
+pub verdict_form : (l : List ℕ) (r : Result ℕ ℕ) → Outcome (Forms deepest) l r → false ≡ is_ok r → Verdict WellShaped l (column_of r)
+verdict_form l (Ok n) o e = absurd (false≢true e)
+verdict_form l (Err n) o e = verdict_fault l n o

@@ -1,12 +1,14 @@
 -- One step of each reader, over the bytes that are left.
-use Rattle.std.proofs.Common.{◌≡◌, ℕ, ◌+◌, ◌-◌, ◌<◌, ◌⊎◌, List, [], ◌∷◌, ◌++◌, length, get_or, take, drop, Err, Result, sym, refl, ap, ◌∙◌, ap₂, inl, inr, ⊎_elim, append_assoc, one-add, arith}
-use Rattle.std.proofs.lemmas.List.{append-nil, take-append-drop, length-take-le, get_or-take, drop_at, get_or_append_left, take_more}
+use Rattle.std.proofs.Common.{◌≡◌, ℕ, zero, suc, ◌+◌, ◌-◌, ◌<◌, ◌≤◌, ◌⊎◌, List, [], ◌∷◌, ◌++◌, length, get_or, take, drop, Ok, Err, Result, sym, refl, ap, ◌∙◌, ap₂, inl, inr, ⊎_elim, append_assoc, one-add, add_assoc, false, arith}
+use Rattle.std.proofs.lemmas.List.{append-nil, take-append-drop, length-take-le, get_or-take, drop_at, get_or_append_left, take_more, length-drop}
+use Rattle.std.specs.Result.{is_ok}
+use Rattle.std.proofs.lemmas.Bool.{false≢true}
 use Rattle.shape.specs.Form.{Form, Args, form, none, number, inner, written, closed, Word, Number, Shaped, ShapedArgs, Forms, Tails}
 use Rattle.shape.specs.Outcome.{Read, Fault, Outcome, shift, Carries, Then}
-use Rattle.shape.specs.Token.{Munch}
+use Rattle.shape.specs.Token.{Munch, Token}
 use Rattle.shape.proofs.Tokens.{the_token, token_fault, token_goes}
 use Rattle.shape.proofs.Agree.{Inside, word_inside, number_inside, tail_ends, number_first, not_both, same_form, form_first}
-use Rattle.shape.proofs.Carry.{Starts, carry, carry_fault}
+use Rattle.shape.proofs.Carry.{Starts, carry, carry_fault, carries_more, read_fits}
 
 -- nothing was read yet, and the input ends
 pub at_end : (G : List ℕ → Type 0) (s w : List ℕ) → s ≡ [] → G w → Fault G s 0
@@ -157,6 +159,32 @@ module _ (d : ℕ) (s u : List ℕ) where
               let t = strip_fault k (b ∷ r) st g.0 g.1 (ap (λ z. z ++ k) (sym g.2) ∙ h) in
               shallow t.2.0 t.2.1 z;
         }
+
+-- What the reader of an argument answers is, after the space before it, an answer for the arguments.
+module _ (d : ℕ) (s u : List ℕ) (e : s ≡ 32 ∷ u) where
+  abbrev pub Argument : Result ℕ ℕ → Type 0
+  Argument (Ok n) = (n ≤ length u) × Carries (Tails d) s (1 + n)
+  Argument (Err n) = Fault (Tails d) s (1 + n)
+
+  pub number_answers : (r : Result ℕ ℕ) → Token Number u r → (r ≡ Err 0 → d ≡ 0) → Argument r
+  number_answers (Ok n) i deep = (i.0.fits, args_number d s u e n i.0 i.1)
+  number_answers (Err zero) i deep = args_deep d s u e i.0 (deep refl)
+  number_answers (Err (suc n)) i deep = args_part d s u e (suc n) i.0 (omega arith) i.1
+
+  pub form_answers : (r : Result ℕ ℕ) → Token Number u (Err 0) → Outcome (Forms d) u r → Argument r
+  form_answers (Ok n) i o = (read_fits (Forms d) u n o, args_inner d s u e n o)
+  form_answers (Err n) i o = args_fault d s u e i.0 n o
+
+-- and so one for all of s
+module _ (d : ℕ) (s : List ℕ) (at : ℕ) (e : drop at s ≡ 32 ∷ drop (at + 1) s) (carries : Carries (Tails d) s at) where
+  pub argument_ends : (r : Result ℕ ℕ) → Argument d (drop at s) (drop (at + 1) s) e r → false ≡ is_ok r → Outcome (Tails d) s (shift (at + 1) r)
+  argument_ends (Ok n) a h = absurd (false≢true h)
+  argument_ends (Err n) a h = rw add_assoc (carries (Err (1 + n)) a)
+
+  pub argument_goes : (n : ℕ) → at ≤ length s → Argument d (drop at s) (drop (at + 1) s) e (Ok n) → (at + 1 + n ≤ length s) × Carries (Tails d) s (at + 1 + n)
+  argument_goes n h a =
+      let more : at < length s = omega (arith, ap length e, length-drop at s) in
+      (omega (arith, a.0, length-drop (at + 1) s), carries_more (Tails d) s at (1 + n) (at + 1 + n) (omega arith) carries a.1)
 
 smallest : (d : ℕ) → 0 < d → Forms d (40 ∷ (97 ∷ (41 ∷ [])))
 smallest d p = (form (97 ∷ []) none, (p, letter_a, tt), refl)

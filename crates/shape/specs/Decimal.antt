@@ -36,6 +36,12 @@ abbrev pub MeasuresNumber : ℤ → Option ℕ → Type 0
 MeasuresNumber z (Some n) = InRange z × (n ≡ length (digits z))
 MeasuresNumber z None = InRange z → ⊥
 
+-- Writing the digits of n over the front of a buffer: how many they are, the bytes past them as before.
+-- Nothing is written exactly where the buffer is too short for them.
+abbrev pub WritesFigures : ℕ → (before after : List ℕ) → Option ℕ → Type 0
+WritesFigures n before after (Some k) = (k ≡ length (figures n)) × (k ≤ length before) × (after ≡ figures n ++ drop k before)
+WritesFigures n before after None = (length before < length (figures n)) × (after ≡ before)
+
 -- Writing z over the front of a buffer: its digits and how many they are, the bytes past them as before.
 -- Nothing is written exactly where z is out of range or the buffer is too short for it.
 abbrev pub WritesNumber : ℤ → (before after : List ℕ) → Option ℕ → Type 0
@@ -50,6 +56,6 @@ pub record LongestNumber (s : List ℕ) (z : ℤ) (n : ℕ) : Type 0 where
   pub is : take n s ≡ digits z
   pub longest : (m : ℕ) → n < m → m ≤ length s → Number (take m s) → ⊥
 
-abbrev pub LeadsNumber : List ℕ → Option Leading → Type 0
+abbrev pub LeadsNumber : List ℕ → Option (Leading ℤ) → Type 0
 LeadsNumber s (Some x) = LongestNumber s x.value x.len
 LeadsNumber s None = (m : ℕ) → m ≤ length s → Number (take m s) → ⊥

@@ -2,7 +2,9 @@
 //!
 //! A line is a form and a line end. A form is `(`, a word of small letters,
 //! arguments with one space before each, `)`. An argument is a number or
-//! again a form. `docs/LINES.md` has the grammar and the column rule.
+//! again a form. `docs/LINES.md` has the grammar and the column rule. Where
+//! reading fails, the error is a place in the line: a number, since there is
+//! only one kind of fault.
 
 #![tactic(auto)]
 
@@ -16,7 +18,10 @@ ghost use Rattle.shape.specs.Outcome.{Outcome};
 
 pub use scan::literal;
 use scan::{number, run};
-pub use value::{LARGEST, Leading, leading_number, number_len, read_number, write_number};
+pub use value::{
+    LARGEST, Leading, figure_count, leading_number, number_len, read_number, write_figures,
+    write_number,
+};
 
 // letters of a word
 pub const MOST_LETTERS: usize = 8;
@@ -31,17 +36,11 @@ pub fn read(line: &[u8]) -> Result<(), usize>
     ensures verdict { Verdict WellShaped line.now result }
     ensures unique { (Unique) × (OneColumn WellShaped) }
 {
-    match form(line, DEEPEST) {
-        Ok(n) => {
-            if n == line.len() || line[n] != b'\n' {
-                return Err(n + 1);
-            }
-            if n + 1 < line.len() {
-                return Err(n + 2);
-            }
-            Ok(())
-        }
-        Err(n) => Err(n + 1),
+    let n = form(line, DEEPEST).map_err(|n| n + 1)?;
+    match &line[n..] {
+        [b'\n'] => Ok(()),
+        [b'\n', ..] => Err(n + 2),
+        _ => Err(n + 1),
     }
 }
 
@@ -52,18 +51,17 @@ fn form(s: &[u8], depth: u8) -> Result<usize, usize>
     requires { 0 < depth }
     ensures { Outcome (Forms depth) s.now result }
 {
-    if s.len() == 0 || s[0] != b'(' {
+    let [b'(', rest @ ..] = s else {
         return Err(0);
-    }
-    let word = run(&s[1..], b'a', b'z', MOST_LETTERS);
+    };
+    let word = run(rest, b'a', b'z', MOST_LETTERS);
     if word == 0 {
         return Err(1);
     }
     let start = 1 + word;
-    match arguments(&s[start..], depth - 1) {
-        Ok(n) => Ok(start + n),
-        Err(n) => Err(start + n),
-    }
+    arguments(&s[start..], depth - 1)
+        .map(|n| start + n)
+        .map_err(|n| start + n)
 }
 
 // Reads arguments up to the bracket that closes their form; a form among them
@@ -73,29 +71,17 @@ fn arguments(s: &[u8], depth: u8) -> Result<usize, usize>
     ensures { Outcome (Tails depth) s.now result }
 {
     let mut at = 0;
-    while at < s.len() {
-        if s[at] == b')' {
-            return Ok(at + 1);
-        }
-        if s[at] != b' ' {
-            return Err(at);
-        }
+    loop {
+        let rest = match &s[at..] {
+            [b')', ..] => return Ok(at + 1),
+            [b' ', rest @ ..] => rest,
+            _ => return Err(at),
+        };
         let next = at + 1;
-        match number(&s[next..]) {
-            Ok(n) => at = next + n,
-            Err(part) => {
-                if part > 0 {
-                    return Err(next + part);
-                }
-                if depth == 0 {
-                    return Err(next);
-                }
-                match form(&s[next..], depth) {
-                    Ok(n) => at = next + n,
-                    Err(n) => return Err(next + n),
-                }
-            }
-        }
+        let argument = match number(rest) {
+            Err(0) if depth > 0 => form(rest, depth),
+            answer => answer,
+        };
+        at = next + argument.map_err(|n| next + n)?;
     }
-    Err(at)
 }

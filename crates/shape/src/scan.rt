@@ -11,15 +11,15 @@ use crate::MOST_DIGITS;
 pub(crate) fn number(s: &[u8]) -> Result<usize, usize>
     ensures { Token Number s.now result }
 {
-    if s.len() > 0 && s[0] == b'-' {
-        if s.len() > 1 && s[1] == b'0' {
-            return Err(1);
-        }
-        let n = run(&s[1..], b'0', b'9', MOST_DIGITS);
-        return if n > 0 { Ok(1 + n) } else { Err(1) };
+    let [b'-', digits @ ..] = s else {
+        let n = unsigned(s);
+        return if n > 0 { Ok(n) } else { Err(0) };
+    };
+    if let [b'0', ..] = digits {
+        return Err(1);
     }
-    let n = unsigned(s);
-    if n > 0 { Ok(n) } else { Err(0) }
+    let n = run(digits, b'0', b'9', MOST_DIGITS);
+    if n > 0 { Ok(1 + n) } else { Err(1) }
 }
 
 // How many digits at the front of `s` can be those of one number: after a
@@ -27,21 +27,21 @@ pub(crate) fn number(s: &[u8]) -> Result<usize, usize>
 fn unsigned(s: &[u8]) -> usize
     ensures { Runs Digit (allowed_digits s.now) s.now result }
 {
-    if s.len() > 0 && s[0] == b'0' {
-        return run(s, b'0', b'9', 1);
-    }
-    run(s, b'0', b'9', MOST_DIGITS)
+    let most = match s {
+        [b'0', ..] => 1,
+        _ => MOST_DIGITS,
+    };
+    run(s, b'0', b'9', most)
 }
 
 // How many bytes at the front of `s` lie between `low` and `high`, counted up to `most`.
 pub(crate) fn run(s: &[u8], low: u8, high: u8, most: usize) -> usize
     ensures { Runs (λ b. (low ≤ b) × (b ≤ high)) most s.now result }
 {
-    let mut n = 0;
-    while n < most && n < s.len() && s[n] >= low && s[n] <= high {
-        n += 1;
-    }
-    n
+    s.iter()
+        .take(most)
+        .take_while(|b| (low..=high).contains(*b))
+        .count()
 }
 
 // Reads the text `text` at the front of `s`. `Ok` has its length, `Err` the
@@ -57,9 +57,5 @@ pub fn literal(s: &[u8], text: &[u8]) -> Result<usize, usize>
 fn shared(s: &[u8], text: &[u8]) -> usize
     ensures { Shares text.now s.now result }
 {
-    let mut n = 0;
-    while n < s.len() && n < text.len() && s[n] == text[n] {
-        n += 1;
-    }
-    n
+    s.iter().zip(text).take_while(|(a, b)| a == b).count()
 }

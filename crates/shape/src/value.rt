@@ -1,7 +1,7 @@
 //! Numbers by their values: read from their digits, and written as them.
 
 ghost use Rattle.std.specs.Prelude.{◌≡◌, ℕ, ◌+◌, ◌-◌, ◌<◌, ◌≤◌, ◌++◌, length, drop};
-ghost use Rattle.shape.specs.Decimal.{LeadsNumber, MeasuresNumber, NumbersAreDigits, ReadsNumber, WritesNumber, figures};
+ghost use Rattle.shape.specs.Decimal.{LeadsNumber, MeasuresNumber, NumbersAreDigits, ReadsNumber, WritesFigures, WritesNumber, figures};
 ghost use Rattle.shape.specs.Form.{Unsigned};
 ghost use Rattle.shape.specs.Limits.{bound};
 
@@ -10,10 +10,10 @@ use crate::scan::number;
 // the largest value that a line can hold; below 0 it goes as far
 pub const LARGEST: u32 = 999_999;
 
-// A number at the front of a text: its value, and how many bytes it takes.
+// A value read at the front of a text, and how many bytes it takes.
 #[derive(Clone, Copy, PartialEq, Eq, Debug)]
-pub struct Leading {
-    pub value: i32,
+pub struct Leading<T> {
+    pub value: T,
     pub len: usize,
 }
 
@@ -22,37 +22,21 @@ pub fn read_number(text: &[u8]) -> Option<i32>
     ensures value { ReadsNumber text.now result }
     ensures shaped { NumbersAreDigits }
 {
-    match leading_number(text) {
-        Some(found) => {
-            if found.len == text.len() {
-                Some(found.value)
-            } else {
-                None
-            }
-        }
-        None => None,
-    }
+    leading_number(text)
+        .filter(|found| found.len == text.len())
+        .map(|found| found.value)
 }
 
 // Reads the longest number that `text` begins with.
-pub fn leading_number(text: &[u8]) -> Option<Leading>
+pub fn leading_number(text: &[u8]) -> Option<Leading<i32>>
     ensures { LeadsNumber text.now result }
 {
-    let Ok(len) = number(text) else {
-        return None;
+    let len = number(text).ok()?;
+    let value = match &text[..len] {
+        [b'-', digits @ ..] => -figures_value(digits).cast_signed(),
+        digits => figures_value(digits).cast_signed(),
     };
-    if text[0] == b'-' {
-        let size = figures_value(&text[1..len]);
-        return Some(Leading {
-            value: 0 - size as i32,
-            len,
-        });
-    }
-    let size = figures_value(&text[0..len]);
-    Some(Leading {
-        value: size as i32,
-        len,
-    })
+    Some(Leading { value, len })
 }
 
 // The value of digits that make a number without a sign.
@@ -72,15 +56,9 @@ pub fn number_len(value: i32) -> Option<usize>
     ensures { MeasuresNumber value result }
 {
     let size = value.unsigned_abs();
-    if size > LARGEST {
-        return None;
-    }
     let count = figure_count(size);
-    if value < 0 {
-        Some(1 + count)
-    } else {
-        Some(count)
-    }
+    let len = if value < 0 { 1 + count } else { count };
+    (size <= LARGEST).then_some(len)
 }
 
 // Writes `value` to the front of `out` and answers how many bytes that took;
@@ -88,10 +66,7 @@ pub fn number_len(value: i32) -> Option<usize>
 pub fn write_number(value: i32, out: &mut [u8]) -> Option<usize>
     ensures { WritesNumber value out.old out.new result }
 {
-    let len = number_len(value)?;
-    if len > out.len() {
-        return None;
-    }
+    let len = number_len(value).filter(|len| *len <= out.len())?;
     let size = value.unsigned_abs();
     if value < 0 {
         out[0] = b'-';
@@ -103,29 +78,26 @@ pub fn write_number(value: i32, out: &mut [u8]) -> Option<usize>
 }
 
 // How many digits `n` has.
-fn figure_count(n: u32) -> usize
+pub fn figure_count(n: u32) -> usize
     ensures { result ≡ length (figures n) }
 {
-    let mut rest = n;
-    let mut count = 1;
-    while rest >= 10 {
-        rest /= 10;
-        count += 1;
-    }
-    count
+    n.checked_ilog10().map_or(1, |log| log as usize + 1)
 }
 
-// Writes the digits of `n` to the front of `out`, and answers how many they are.
-fn write_figures(n: u32, out: &mut [u8]) -> usize
-    requires { length (figures n) ≤ length out.old }
-    ensures len { result ≡ length (figures n) }
-    ensures after { out.new ≡ figures n ++ drop (length (figures n)) out.old }
+// Writes the digits of `n` to the front of `out` and answers how many they are;
+// `None`, and nothing written, if `out` is too short.
+pub fn write_figures(n: u32, out: &mut [u8]) -> Option<usize>
+    ensures { WritesFigures n out.old out.new result }
 {
-    if n < 10 {
-        out[0] = b'0' + n as u8;
-        return 1;
+    let count = figure_count(n);
+    if out.len() < count {
+        return None;
     }
-    let place = write_figures(n / 10, out);
-    out[place] = b'0' + (n % 10) as u8;
-    place + 1
+    let mut rest = n;
+    // by index: once `iter_mut().rev()` is over, a proof knows the length alone
+    for place in (0..count).rev() {
+        out[place] = b'0' + (rest % 10) as u8;
+        rest /= 10;
+    }
+    Some(count)
 }

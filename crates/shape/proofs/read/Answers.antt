@@ -1,41 +1,43 @@
-use Rattle.std.proofs.Common.{◌≡◌, ◌<◌, length, get_or, arith}
-use Rattle.shape.specs.Form.{WellShaped}
-use Rattle.shape.proofs.Agree.{unique}
-use Rattle.shape.proofs.Carry.{read_fits, fault_fits}
-use Rattle.shape.proofs.Columns.{one_column}
-use Rattle.shape.proofs.Shapes.{verdict_fault, verdict_other, verdict_long, verdict_ok}
+use Rattle.std.proofs.Common.{◌≡◌, length, ap, arith, rules}
+use Rattle.std.proofs.lemmas.List.{take_rest, length-drop}
+use Rattle.shape.specs.Form.{Forms}
+use Rattle.shape.specs.Limits.{deepest}
+use Rattle.shape.specs.Outcome.{Read}
+use Rattle.shape.proofs.Carry.{rest_byte, byte_rest}
+use Rattle.shape.proofs.Shapes.{one_reading, column_of, verdict_form, verdict_other, verdict_long, verdict_ok}
 use Rattle.shape.proofs.read.Goals as goal
-use Rattle.shape.proofs.read.Goals.{then-n-line-via-then-n-line, then-n-line-via-else-n-line+then-line-n-ne10}
+use Rattle.shape.proofs.read.Goals.{in_default-via-then-line-n-lt1, in_default-via-else-line-n-lt1+then-this-lt2+in_default-1, in_default-via-else-line-n-lt1+else-this-lt2+in_default-1}
 
-pub bounds-line-n : goal.bounds-line-n
-bounds-line-n c = omega (arith, read_fits _ _ _ c.in-Ok.ensures)
+pub returns-in_err-n : goal.returns-in_err-n
+returns-in_err-n c =
+    let r : c.from_residual.result ≡ column_of c.form.result = search rules in
+    record { verdict = rw r (verdict_form c.args.line.now _ c.form.ensures c.in_err-n.ensures.variant); unique = one_reading }
 
-pub overflow_add-result : goal.overflow_add-result
-overflow_add-result c = omega (arith, read_fits _ _ _ c.in-Ok.ensures)
+pub returns-in-10 : goal.returns-in-10
+returns-in-10 c =
+    let l = c.args.line.now in
+    let b = rest_byte l c.in_ok-n.n 10 (omega (arith, c.in-10.len_at_least)) (omega arith) in
+    let o : Read (Forms deepest) l c.in_ok-n.n = search rules in
+    record { verdict = verdict_ok l c.in_ok-n.n o b.0 b.2 (omega (arith, c.in-10.len_below, ap length (take_rest l c.in_ok-n.n), length-drop c.in_ok-n.n l)); unique = one_reading }
 
-pub returns-then-n-line : goal.returns-then-n-line
-returns-then-n-line c =
-    let other : c.in-Ok.n < length c.args.line.now → get_or c.args.line.now c.in-Ok.n 0 ≡ 10 → ⊥ = λ h e. elim c.then-n-line.branch [
-      | then-n-line-via-then-n-line w ↦ omega (arith, w.if-n-line.true)
-      | then-n-line-via-else-n-line+then-line-n-ne10 w ↦ w.if-line-n-ne10.true e
-    ] in
-    record { verdict = verdict_other c.args.line.now c.in-Ok.n c.in-Ok.ensures other; unique = (unique, one_column WellShaped) }
+pub returns-in-10-2 : goal.returns-in-10-2
+returns-in-10-2 c =
+    let l = c.args.line.now in
+    let b = rest_byte l c.in_ok-n.n 10 (omega (arith, c.in-10-2.len_at_least)) (omega arith) in
+    let o : Read (Forms deepest) l c.in_ok-n.n = search rules in
+    record { verdict = verdict_long l c.in_ok-n.n o b.0 b.2 (omega (arith, c.in-10-2.len_at_least, ap length (take_rest l c.in_ok-n.n), length-drop c.in_ok-n.n l)); unique = one_reading }
 
-pub overflow_add-n : goal.overflow_add-n
-overflow_add-n c = omega (arith, read_fits _ _ _ c.in-Ok.ensures)
-
-pub returns-then-n-line-2 : goal.returns-then-n-line-2
-returns-then-n-line-2 c =
-    record { verdict = verdict_long c.args.line.now c.in-Ok.n c.in-Ok.ensures (omega arith) c.if-line-n-ne10.false c.if-n-line-2.true; unique = (unique, one_column WellShaped) }
-
-pub overflow_add-result-in-Err : goal.overflow_add-result-in-Err
-overflow_add-result-in-Err c = omega (arith, fault_fits _ _ _ c.in-Err.ensures)
-
-pub returns-else-n-line-2 : goal.returns-else-n-line-2
-returns-else-n-line-2 c =
-    let o = c.in-Ok.ensures in
-    let within : c.in-Ok.n < length c.args.line.now = omega (arith, read_fits _ _ _ o) in
-    record { verdict = verdict_ok c.args.line.now c.in-Ok.n o within c.if-line-n-ne10.false c.if-n-line-2.false; unique = (unique, one_column WellShaped) }
-
-pub returns-in-Err : goal.returns-in-Err
-returns-in-Err c = record { verdict = verdict_fault c.args.line.now c.in-Err.n c.in-Err.ensures; unique = (unique, one_column WellShaped) }
+pub returns-in_default : goal.returns-in_default
+returns-in_default c =
+    let l = c.args.line.now in
+    let o : Read (Forms deepest) l c.in_ok-n.n = search rules in
+    record {
+      verdict = verdict_other l c.in_ok-n.n o (λ h e.
+          let r = byte_rest l c.in_ok-n.n 10 h e in
+          elim c.in_default.branch [
+            | in_default-via-then-line-n-lt1 w ↦ grind (arith, r)
+            | in_default-via-else-line-n-lt1+then-this-lt2+in_default-1 w ↦ grind (arith, r)
+            | in_default-via-else-line-n-lt1+else-this-lt2+in_default-1 w ↦ grind (arith, r)
+          ]);
+      unique = one_reading;
+    }
