@@ -3,7 +3,7 @@ use Rattle.std.specs.Prelude.{◌≡◌, ℕ, ◌+◌, ◌<◌, List, [], ◌∷
 use Rattle.refusal.specs.declared.Refusal.{Refusal}
 use Rattle.refusal.specs.declared.Refusal.TheVariants.{RollUsedUp}
 
--- the last serial that a roll can give: four bytes hold it
+-- the last serial that a roll can give: four bytes hold it (a sealed line can hold as large a one; neither crate stands on the other)
 abbrev pub last_serial : ℕ
 last_serial = 4294967295
 

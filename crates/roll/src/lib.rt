@@ -48,10 +48,7 @@ impl Roll {
         ensures law { NeverRepeats }
     {
         let last = &mut self.last;
-        if *last == u32::MAX {
-            return Err(Refusal::RollUsedUp);
-        }
-        *last += 1;
+        *last = last.checked_add(1).ok_or(Refusal::RollUsedUp)?;
         Ok(Ticket { serial: *last })
     }
 
@@ -59,14 +56,9 @@ impl Roll {
     pub fn draw_pair(&mut self) -> Result<(u32, u32), Refusal>
         ensures { PairDrawn self.old.last self.new.last result }
     {
-        let first = self.draw()?;
-        match self.draw() {
-            Ok(second) => Ok((first.spend(), second.spend())),
-            Err(refusal) => {
-                let _unused = first.spend();
-                Err(refusal)
-            }
-        }
+        let first = self.draw()?.spend();
+        let second = self.draw()?.spend();
+        Ok((first, second))
     }
 }
 

@@ -1,5 +1,5 @@
 -- What is written reads back.
-use Rattle.std.proofs.Common.{◌≡◌, ℕ, ◌-◌, ◌<◌, ◌≤◌, List, ◌++◌, length, get_or, take, drop, Some, None, Ok, Err, Option, Result, sym, refl, ap, arith}
+use Rattle.std.proofs.Common.{◌≡◌, ℕ, ◌-◌, ◌<◌, ◌≤◌, List, ◌++◌, length, get_or, take, drop, Some, None, Ok, Err, Option, Result, sym, refl, arith}
 use Rattle.std.specs.List.{AllByRecursion}
 use Rattle.std.proofs.lemmas.List.{take_at}
 use Rattle.std.proofs.ByRecursion.{All-from_get_or}
@@ -45,14 +45,6 @@ module _ (p : Parts) (before after : List ℕ) (n : ℕ) (l : p.serial ≤ last_
       let g : ReadFrom (sealed_line p) u = rw front at f in
       (lawful, one_reading (parts_of u) p g.lawful lawful (sym g.line), g)
   reads_back (Err e) f = absurd (f.0 (p, lawful, front))
-
--- a writer's refusal stays the answer
-pub refused_back : (p : Parts) (before after : List ℕ) (e : Refusal) → WritesLine p before after (Err e) → ReadsBack p (length before) (Err e)
-refused_back p before after e h = came _ h
-  where
-    came : (q : Option Refusal) → Writes q (sealed_line p) before after (Err e) → q ≡ Some e
-    came (Some d) h = let f = h.0 in let g : e ≡ d = cc in ap Some (sym g)
-    came None h = absurd (let f = h.0 in let z : ◌≡◌ {A = ℕ} 0 1 = cc in omega arith)
 
 pub all_bytes : (xs : List ℕ) → ((i : ℕ) → get_or xs i 0 < 256) → AllByRecursion Byte xs
 all_bytes xs f = All-from_get_or Byte xs 0 (λ i l. f i)

@@ -1,12 +1,12 @@
 -- Hexadecimal digits and the bytes that they write.
-use Rattle.std.proofs.Common.{◌≡◌, ℕ, zero, suc, ◌+◌, ◌-◌, ◌*◌, ◌/◌, ◌%◌, ◌<◌, ◌≤◌, Bool, true, List, [], ◌∷◌, ◌++◌, length, take, replicate, Ok, Err, sym, refl, ap, ◌∙◌, ap₂, inl, arith, length-append}
+use Rattle.std.proofs.Common.{◌≡◌, ℕ, zero, suc, ◌+◌, ◌-◌, ◌*◌, ◌/◌, ◌%◌, ◌<◌, Bool, true, List, [], ◌∷◌, ◌++◌, length, take, replicate, Ok, Err, sym, refl, ap, ◌∙◌, ap₂, inl, arith, length-append}
 use Rattle.std.specs.List.{AllByRecursion}
 use Rattle.std.proofs.lemmas.List.{length-take-le, length-replicate}
 use Rattle.std.proofs.ByRecursion.{All-append}
 use Rattle.std.proofs.lemmas.Bool.Decides.{nat_tests}
 use Rattle.shape.specs.Token.{Munch, Runs, Token}
 use Rattle.shape.proofs.Numbers.{grown_length, grown_byte}
-use Rattle.sealed.specs.Frame.{HexOf}
+use Rattle.sealed.specs.Frame.{HexOf, Most}
 use Rattle.sealed.specs.Hex.{Byte, HexDigit, hex_digit, hex_of, digit_value, bytes_of}
 
 value_digit : (n : ℕ) → n < 16 → digit_value (hex_digit n) ≡ n
@@ -28,6 +28,11 @@ value_small c = grind (arith, nat_tests)
 pub length_hex : (bytes : List ℕ) → length (hex_of bytes) ≡ 2 * length bytes
 length_hex [] = refl
 length_hex (b ∷ bytes) = omega (arith, length_hex bytes)
+
+-- the digits of one byte more
+pub hex_push : (bytes : List ℕ) (b : ℕ) → hex_of (bytes ++ b ∷ []) ≡ (hex_of bytes ++ hex_digit (b / 16) ∷ []) ++ hex_digit (b % 16) ∷ []
+hex_push [] b = refl
+hex_push (c ∷ bytes) b = ap (λ z. hex_digit (c / 16) ∷ (hex_digit (c % 16) ∷ z)) (hex_push bytes b)
 
 pub hex_digits : (bytes : List ℕ) → AllByRecursion Byte bytes → AllByRecursion HexDigit (hex_of bytes)
 hex_digits [] a = tt
@@ -72,25 +77,31 @@ all_zeros zero = tt
 all_zeros (suc m) = (inl (omega arith, omega arith), all_zeros m)
 
 -- A run of digits, up to the longest that is allowed.
-module _ (allowed : ℕ → Bool) (most : ℕ) (top : allowed most ≡ true) (bound : (n : ℕ) → allowed n ≡ true → n ≤ most) (s : List ℕ) (n : ℕ) (run : Runs HexDigit (2 * most) s n) where
+module _ (allowed : ℕ → Bool) (most : ℕ) (bound : Most allowed most) (s : List ℕ) (n : ℕ) (run : Runs HexDigit (2 * most) s n) where
   long : length (take n s) ≡ n
   long = length-take-le n s run.fits
 
   pub hex_munch : Munch (HexOf allowed) s n
   hex_munch =
-      let pad = replicate (2 * most - n) 48 in
+      let pad : List ℕ = replicate (2 * most - n) 48 in
       let e : length (take n s ++ pad) ≡ 2 * most = simp (length-append, length-replicate) (omega (arith, long, run.few)) in
       record {
         fits = run.fits;
-        begins = (pad, hex_token_is allowed most (take n s ++ pad) e (All-append HexDigit (take n s) pad run.all (all_zeros (2 * most - n))) top);
+        begins = (pad, hex_token_is allowed most (take n s ++ pad) e (All-append HexDigit (take n s) pad run.all (all_zeros (2 * most - n))) bound.0);
         stops = λ l f.
             let x = f.1 in
             let digits : AllByRecursion HexDigit (take (n + 1) s ++ f.0) = rw x.3 (hex_digits x.0 x.1) in
-            run.stops (omega (arith, grown_length s n f.0 l, ap length x.3, length_hex x.0, bound (length x.0) x.2)) l (grown_byte s n f.0 l HexDigit digits);
+            run.stops (omega (arith, grown_length s n f.0 l, ap length x.3, length_hex x.0, bound.1 (length x.0) x.2)) l (grown_byte s n f.0 l HexDigit digits);
       }
 
-  pub hex_token : (k : ℕ) → n ≡ 2 * k → allowed k ≡ true → Token (HexOf allowed) s (Ok n)
-  hex_token k e ok = (hex_munch, hex_token_is allowed k (take n s) (long ∙ e) run.all ok)
+  pub hex_token : n % 2 ≡ 0 → allowed (n / 2) ≡ true → Token (HexOf allowed) s (Ok n)
+  hex_token even ok = (hex_munch, hex_token_is allowed (n / 2) (take n s) (long ∙ omega arith) run.all ok)
 
-  pub hex_part : ((k : ℕ) → n ≡ 2 * k → allowed k ≡ true → ⊥) → Token (HexOf allowed) s (Err n)
-  hex_part other = (hex_munch, λ x. other (length x.0) (sym long ∙ ap length x.3 ∙ length_hex x.0) x.2)
+  pub hex_part : (n % 2 ≡ 0 → allowed (n / 2) ≡ true → ⊥) → Token (HexOf allowed) s (Err n)
+  hex_part other = (
+    hex_munch,
+    λ x.
+        let twice : n ≡ 2 * length x.0 = sym long ∙ ap length x.3 ∙ length_hex x.0 in
+        let half : n / 2 ≡ length x.0 = omega arith in
+        other (omega arith) (ap allowed half ∙ x.2),
+  )

@@ -4,6 +4,7 @@ use Rattle.std.proofs.lemmas.List.{length-replicate}
 use Rattle.std.proofs.lemmas.Bool.Decides.{nat_tests}
 use Rattle.shape.specs.Decimal.{figures}
 use Rattle.shape.proofs.Figures.{length_one, length_figures}
+use Rattle.sealed.specs.Frame.{Most}
 use Rattle.sealed.specs.Limits.{siv_length, text_length, longest_siv, longest_text, last_serial}
 use Rattle.sealed.specs.Line.{Parts, Lawful, SealedLine, Longest, LongestHeader, header_of, rest_of, sealed_line}
 use Rattle.sealed.proofs.Hexes.{length_hex}
@@ -17,25 +18,31 @@ pub length_line : (p : Parts) → length (sealed_line p) ≡ length (header_of p
 unfolding sealed_line rest_of
 length_line p = simp (length-append, length-append) (omega (arith, length_hex p.siv, length_hex p.text))
 
-pub length_rest : (siv text : List ℕ) → length (rest_of siv text) ≡ 16 + 2 * length siv + 2 * length text
-unfolding rest_of
-length_rest siv text = simp length-append (omega (arith, length_hex siv, length_hex text))
+pub few_figures : (n : ℕ) → n ≤ last_serial → length (figures n) ≤ 10
+few_figures n h = length_figures 10 n (omega arith) (omega arith) (omega arith)
 
-siv_most : (n : ℕ) → siv_length n ≡ true → n ≤ longest_siv
-siv_most n h = grind (arith, nat_tests)
+-- the longest SIV and the longest text
+siv_within : (n : ℕ) → siv_length n ≡ true → n ≤ longest_siv
+siv_within n h = grind (arith, nat_tests)
 
-text_most : (n : ℕ) → text_length n ≡ true → n ≤ longest_text
-text_most n h = grind (arith, nat_tests)
+text_within : (n : ℕ) → text_length n ≡ true → n ≤ longest_text
+text_within n h = grind (arith, nat_tests)
+
+pub siv_most : Most siv_length longest_siv
+siv_most = (refl, siv_within)
+
+pub text_most : Most text_length longest_text
+text_most = (refl, text_within)
 
 pub longest_header_is : LongestHeader
 longest_header_is a b c h =
-    omega (arith, length_header a b c, length_one a (omega (arith, h.slot_last)), length_one b (omega (arith, h.kind_last)), length_figures 10 c (omega arith) (omega (arith, h.serial_last)) (omega (arith, h.serial_last)))
+    omega (arith, length_header a b c, length_one a (omega (arith, h.slot_last)), length_one b (omega (arith, h.kind_last)), few_figures c h.serial_last)
 
 fits : (l : List ℕ) → SealedLine l → length l ≤ 32894
 fits l x =
     let p = x.0 in
     let a = x.1 in
-    omega (arith, ap length x.2, length_line p, longest_header_is p.slot p.kind p.serial a.head, siv_most (length p.siv) a.siv_long, text_most (length p.text) a.text_long)
+    omega (arith, ap length x.2, length_line p, longest_header_is p.slot p.kind p.serial a.head, siv_most.1 (length p.siv) a.siv_long, text_most.1 (length p.text) a.text_long)
 
 abbrev long : Parts
 long = record { slot = 7; kind = 9; serial = last_serial; siv = replicate longest_siv 0; text = replicate longest_text 0 }

@@ -1,11 +1,13 @@
 pub mod Hexes
 pub mod Values
 pub mod Pieces
+pub mod Mapped
 pub mod Scans
-pub mod Fields
 pub mod Frames
 pub mod Overs
+pub mod Parts
 pub mod Lengths
 pub mod Refusals
+pub mod Sheets
 pub mod Backs
 pub mod Wholes

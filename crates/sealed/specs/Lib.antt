@@ -4,6 +4,7 @@ pub mod Line
 pub mod Frame
 pub mod Sheet
 pub mod Writes
+pub mod Output
 pub mod Opening
 pub mod Law
 pub mod Whole

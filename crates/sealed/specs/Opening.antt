@@ -21,7 +21,7 @@ HoldsSiv siv s = (s.len ≡ length siv) × (s.bytes ≡ siv ++ replicate (longes
 
 -- r is what opening needs of the sheet u
 pub record ApartFrom (u : Unchecked) (r : SealedParts) : Type 0 where
-  pub head : r.header.now ≡ header_of u.slot u.kind u.serial
+  pub head : r.header.now ≡ header_of u.label.slot u.label.kind u.label.serial
   pub siv : HoldsSiv (parts_of u).siv r.siv
   pub text : cipher_of r.text ≡ (parts_of u).text
 

@@ -14,6 +14,11 @@ abbrev pub header_refusal : (slot kind serial : ℕ) → Option Refusal
 header_refusal slot kind serial =
     cond (nat_lt last_slot slot) (Some NoSlot) (cond (nat_lt kind first_kind || nat_lt last_kind kind) (Some OtherKind) (cond (nat_lt serial first_serial) (Some StaleSerial) None))
 
+-- the answer of a check
+abbrev pub answer : Option Refusal → Result (Unit {0}) Refusal
+answer (Some e) = Err e
+answer None = Ok tt
+
 -- and after them with the lengths of SIV and text
 abbrev pub length_refusal : Option Refusal → (siv text : ℕ) → Option Refusal
 length_refusal (Some e) siv text = Some e

@@ -9,10 +9,11 @@ use refusal::Refusal;
 pub(crate) fn is_hex(b: u8) -> bool
     ensures { Decides result (HexDigit b) }
 {
-    (b >= b'0' && b <= b'9') || (b >= b'a' && b <= b'f')
+    matches!(b, b'0'..=b'9' | b'a'..=b'f')
 }
 
-// The digit of a value below 16.
+// The digit of a value below 16; `char::from_digit` gives an option of a `char`.
+#[tactic(auto, using(std::proofs::lemmas::Bool::Decides::nat_tests), unfolding(crate::specs::Hex::hex_digit))]
 fn digit(value: u8) -> u8
     requires { value < 16 }
     ensures { result ≡ hex_digit value }
@@ -24,7 +25,8 @@ fn digit(value: u8) -> u8
     }
 }
 
-// The value of a digit, 0 for any other byte.
+// The value of a digit, 0 for any other byte; `to_digit` takes capitals too.
+#[tactic(auto, using(std::proofs::lemmas::Bool::Decides::nat_tests), unfolding(crate::specs::Hex::digit_value))]
 fn nibble(c: u8) -> u8
     ensures { result ≡ digit_value c }
 {
@@ -35,19 +37,16 @@ fn nibble(c: u8) -> u8
     }
 }
 
-// Writes the digits of `bytes` from the place `at` on, and answers where they end.
-pub(crate) fn put_hex(bytes: &[u8], out: &mut [u8], at: usize) -> usize
-    requires { at + 2 * length bytes.now ≤ length out.old }
-    ensures end { result ≡ at + length (hex_of bytes.now) }
-    ensures after { out.new ≡ over out.old at (hex_of bytes.now) }
+// Writes the digits of `bytes` to the front of `out`.
+pub(crate) fn put_hex(bytes: &[u8], out: &mut [u8])
+    requires { 2 * length bytes.now ≤ length out.old }
+    ensures { out.new ≡ hex_of bytes.now ++ drop (2 * length bytes.now) out.old }
 {
-    let mut place = at;
-    for b in bytes {
-        out[place] = digit(*b / 16);
-        out[place + 1] = digit(*b % 16);
-        place += 2;
+    // by index: of what `chunks_exact_mut` lends out a proof knows no byte afterwards
+    for (i, b) in bytes.iter().enumerate() {
+        out[2 * i] = digit(*b / 16);
+        out[2 * i + 1] = digit(*b % 16);
     }
-    place
 }
 
 // Writes the bytes that `digits` write to the front of `out`, and answers how many they are.
@@ -56,11 +55,11 @@ pub(crate) fn put_bytes(digits: &[u8], out: &mut [u8]) -> usize
     ensures len { result ≡ length (bytes_of digits.now) }
     ensures after { out.new ≡ bytes_of digits.now ++ drop (length (bytes_of digits.now)) out.old }
 {
-    let count = digits.len() / 2;
-    for i in 0..count {
-        out[i] = nibble(digits[2 * i]) * 16 + nibble(digits[2 * i + 1]);
+    // by index: of what a zipped `iter_mut` lends out a proof knows no byte afterwards
+    for (i, pair) in digits.chunks_exact(2).enumerate() {
+        out[i] = nibble(pair[0]) * 16 + nibble(pair[1]);
     }
-    count
+    digits.len() / 2
 }
 
 // Writes `bytes` to the front of `out` in hexadecimal and answers how many
@@ -71,5 +70,6 @@ pub fn write_hex(bytes: &[u8], out: &mut [u8]) -> Result<usize, Refusal>
     if out.len() / 2 < bytes.len() {
         return Err(Refusal::ShortOutput);
     }
-    Ok(put_hex(bytes, out, 0))
+    put_hex(bytes, out);
+    Ok(2 * bytes.len())
 }

@@ -7,17 +7,22 @@
 
 #![tactic(auto)]
 
+ghost use Rattle.std.specs.Prelude.{◌≡◌};
+ghost use Rattle.sealed.specs.Limits.{siv_length};
+
 mod hex;
+mod label;
 mod unchecked;
 mod whole;
 mod wiped;
 mod writing;
 
 pub use hex::write_hex;
+pub use label::Label;
 pub use unchecked::{Ciphertext, SealedParts, Siv, Unchecked};
 pub use whole::{read_hex, read_number};
 pub use wiped::Wiped;
-pub use writing::{longest_header, longest_line, write_and_read, write_header, write_line};
+pub use writing::{longest_header, longest_line};
 
 // slots are numbered from 0
 pub const LAST_SLOT: u32 = 7;
@@ -31,3 +36,10 @@ pub const LONGEST_TEXT: usize = 16_384;
 pub const LONGEST_HEADER: usize = 46;
 
 pub const LONGEST_LINE: usize = 32_894;
+
+// Whether a SIV may have so many bytes: one length for each strength of the cipher.
+pub(crate) fn is_siv_len(len: usize) -> bool
+    ensures { result ≡ siv_length len }
+{
+    matches!(len, 8 | 16 | 32)
+}

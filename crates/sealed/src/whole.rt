@@ -12,12 +12,7 @@ use crate::unchecked::reading::read_value;
 fn all_hex(digits: &[u8]) -> bool
     ensures { Decides result (AllByRecursion HexDigit digits.now) }
 {
-    for b in digits {
-        if !is_hex(*b) {
-            return false;
-        }
-    }
-    true
+    digits.iter().all(|b| is_hex(*b))
 }
 
 // The number of four bytes that a text writes, without leading zeros; nothing
@@ -25,16 +20,8 @@ fn all_hex(digits: &[u8]) -> bool
 pub fn read_number(text: &[u8]) -> Option<u32>
     ensures { NumberRead text.now result }
 {
-    match read_value(text, 0, u32::MAX) {
-        Ok(found) => {
-            if found.len == text.len() {
-                Some(found.value)
-            } else {
-                None
-            }
-        }
-        Err(_) => None,
-    }
+    let found = read_value(text, 0, u32::MAX).ok()?;
+    (found.len == text.len()).then_some(found.value)
 }
 
 // Puts the bytes that a text writes in hexadecimal to the front of `out`, and

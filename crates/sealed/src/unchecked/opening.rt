@@ -1,58 +1,62 @@
 //! What a sheet tells, and taking it apart for opening.
 
-ghost use Rattle.std.specs.Prelude.{◌≡◌, ℕ, ◌≤◌, List, length, replicate};
+ghost use Rattle.std.specs.Prelude.{◌≡◌, ◌≤◌, length, take, replicate};
 ghost use Rattle.sealed.specs.Opening.{ApartFrom, Compares, HoldsSiv, cipher_of};
 ghost use Rattle.sealed.specs.Hex.{bytes_of};
 ghost use Rattle.sealed.specs.Limits.{longest_siv};
-ghost use Rattle.sealed.specs.Sheet.{ReadFrom};
 ghost use Rattle.sealed.specs.Writes.{Decodes};
 
 use super::{Ciphertext, SealedParts, Siv, Unchecked};
 use crate::LONGEST_SIV;
 use crate::hex::put_bytes;
+use crate::label::Label;
 use crate::wiped::Wiped;
 use refusal::Refusal;
 
-// The SIV that `digits` write; none is longer than its array.
+// The SIV that `digits` write.
 fn siv_of(digits: &[u8]) -> Siv
-    ensures { length (bytes_of digits.now) ≤ longest_siv → HoldsSiv (bytes_of digits.now) result }
+    requires { length (bytes_of digits.now) ≤ longest_siv }
+    ensures { HoldsSiv (bytes_of digits.now) result }
 {
     let mut bytes = [0u8; LONGEST_SIV];
-    if digits.len() / 2 > LONGEST_SIV {
-        return Siv { bytes, len: 0 };
-    }
     let len = put_bytes(digits, &mut bytes);
     Siv { bytes, len }
 }
 
 impl<'a> Unchecked<'a> {
-    pub fn slot(&self) -> u8
-        ensures { result ≡ self.now.slot }
+    // What the sheet tells before it is opened.
+    pub fn label(&self) -> Label
+        ensures { result ≡ self.now.label }
     {
-        self.slot
+        let Unchecked { label, .. } = self;
+        *label
+    }
+
+    pub fn slot(&self) -> u8
+        ensures { result ≡ self.now.label.slot }
+    {
+        self.label.slot
     }
 
     pub fn kind(&self) -> u8
-        ensures { result ≡ self.now.kind }
+        ensures { result ≡ self.now.label.kind }
     {
-        self.kind
+        self.label.kind
     }
 
     pub fn serial(&self) -> u32
-        ensures { result ≡ self.now.serial }
+        ensures { result ≡ self.now.label.serial }
     {
-        self.serial
+        self.label.serial
     }
 
     // Takes the sheet apart for the crate that opens it, and uses it up.
     pub fn into_parts(self) -> SealedParts<'a>
-        ensures { (l : List ℕ) → ReadFrom l self.entry → ApartFrom self.entry result }
+        ensures { ApartFrom self.entry result }
     {
         let Unchecked {
             header,
-            slot: _,
-            kind: _,
-            serial: _,
+            label: _,
             siv,
             text,
         } = self;
@@ -61,6 +65,15 @@ impl<'a> Unchecked<'a> {
             siv: siv_of(siv),
             text: Ciphertext { digits: text },
         }
+    }
+}
+
+impl Siv {
+    // Its bytes.
+    pub fn as_bytes(&self) -> &[u8]
+        ensures { result.now ≡ take self.now.len self.now.bytes }
+    {
+        &self.bytes[..self.len.min(LONGEST_SIV)]
     }
 }
 
@@ -77,10 +90,10 @@ impl Ciphertext<'_> {
     pub fn decode(self, work: &mut [u8]) -> Result<usize, Refusal>
         ensures { Decodes (cipher_of self.entry) work.old work.new result }
     {
-        let Ciphertext { digits } = self;
-        if work.len() < digits.len() / 2 {
+        if work.len() < self.len() {
             return Err(Refusal::ShortWork);
         }
+        let Ciphertext { digits } = self;
         Ok(put_bytes(digits, work))
     }
 
@@ -92,9 +105,6 @@ impl Ciphertext<'_> {
     {
         let guard = Wiped { work };
         let n = self.decode(&mut guard.work[..])?;
-        if n != bytes.len() {
-            return Ok(false);
-        }
-        Ok(&guard.work[0..n] == bytes)
+        Ok(&guard.work[..n] == bytes)
     }
 }

@@ -1,9 +1,8 @@
-use Rattle.std.proofs.Common.{rules}
 use Rattle.roll.proofs.Runs.{never_repeats}
 use Rattle.roll.proofs.Roll.draw.Goals as goal
 
-pub returns-then-last : goal.returns-then-last
-returns-then-last c = record { drawn = search rules; law = never_repeats }
+pub returns-in_err-last-clause-law : goal.returns-in_err-last-clause-law
+returns-in_err-last-clause-law c = never_repeats
 
-pub returns : goal.returns
-returns c = record { drawn = search rules; law = never_repeats }
+pub returns-clause-law : goal.returns-clause-law
+returns-clause-law c = never_repeats

@@ -1,7 +1,6 @@
-use Rattle.std.proofs.Common.{◌≡◌, ◌+◌, ◌*◌, take}
+use Rattle.std.proofs.Common.{◌≡◌, ◌*◌, ◌++◌, take, drop}
 use Rattle.sealed.specs.Hex.{hex_of}
-use Rattle.sealed.specs.Writes.{over}
 use Rattle.sealed.proofs.hex.put_hex.Given as goal
 
-abbrev pub invariant-loop-b : goal.invariant-loop-b
-invariant-loop-b l = (l.place ≡ l.at + 2 * l.b-index) × (l.out ≡ over l.initial.out l.at (hex_of (take l.b-index l.bytes)))
+abbrev pub invariant-loop-i : goal.invariant-loop-i
+invariant-loop-i l = l.out ≡ hex_of (take l.i l.bytes) ++ drop (2 * l.i) l.initial.out

@@ -9,6 +9,6 @@ loop-len-preserved c =
     let s = c.args.s.now in
     let n = c.loop-len.len in
     let l : n < length s = omega arith in
-    let d : Digit (get_or s n 0) = (omega arith, omega arith) in
-    let v = value_next s n c.loop-len.value l d c.loop-len.invariant.2 in
-    (omega arith, omega arith, omega (arith, v), All-more Digit s n 0 l c.loop-len.invariant.3 d)
+    let d : Digit (get_or s n 0) = c.if-not-is_ascii_digit.ensures.cases in
+    let v = value_next s n c.loop-len.value l d c.loop-len.invariant.1 in
+    (omega arith, omega (arith, v), All-more Digit s n 0 l c.loop-len.invariant.2 d)

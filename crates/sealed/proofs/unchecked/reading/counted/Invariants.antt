@@ -1,11 +1,8 @@
-use Rattle.std.proofs.Common.{◌≡◌, ◌-◌, ◌≤◌, length, take}
+use Rattle.std.proofs.Common.{◌≡◌, ◌≤◌, take}
 use Rattle.std.specs.Str.Parse.{digits_value}
 use Rattle.std.specs.List.{AllByRecursion}
 use Rattle.shape.specs.Form.{Digit}
 use Rattle.sealed.proofs.unchecked.reading.counted.Given as goal
 
 abbrev pub invariant-loop-len : goal.invariant-loop-len
-invariant-loop-len l = (l.len ≤ length l.s) × (l.value ≤ l.high) × (l.value ≡ digits_value 10 (take l.len l.s)) × AllByRecursion Digit (take l.len l.s)
-
-abbrev pub decreases-loop-len : goal.decreases-loop-len
-decreases-loop-len l = length l.s - l.len
+invariant-loop-len l = (l.value ≤ l.high) × (l.value ≡ digits_value 10 (take l.len l.s)) × AllByRecursion Digit (take l.len l.s)
