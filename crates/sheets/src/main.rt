@@ -6,15 +6,15 @@
 
 #![tactic(auto)]
 
-ghost use Rattle.std.specs.Prelude.{◌<◌, IfSome};
-
 use anyhow::anyhow;
+use columns::decode_field;
 use items::{Job, JobItem, Setting, SettingItem};
 use kinds::{Kind, MOST_ITEMS, Tray};
 use refusal::Refusal;
 use std::alloc::{AllocError, Global};
 
-// A kind whose items can be shown by their words and numbers.
+// A kind whose items can be shown by their words and numbers. No `Display`, since
+// the items are another crate's: it would need a wrapper beside this trait.
 trait Shown: Kind {
     // some item, for places that are not filled yet
     fn blank() -> Self::Item;
@@ -60,19 +60,13 @@ fn read_line<K: Shown>(heap: Global, line: &[u8]) -> anyhow::Result<String> {
     if let Some(item) = K::read(line) {
         return Ok(K::words(heap, &item)?);
     }
-    let column = match shape::read(line) {
-        Ok(()) => 0,
-        Err(column) => column,
-    };
+    let column = shape::read(line).err().unwrap_or(0);
     Ok(format!(in heap; "column {column}")?)
 }
 
 // What a text is read as: its items, or the line and the column of its fault.
 fn read_text<K: Shown>(heap: Global, text: &[u8]) -> anyhow::Result<String> {
-    let mut places = Vec::new(heap);
-    for _ in 0..MOST_ITEMS {
-        places.push(K::blank())?;
-    }
+    let mut places = vec![in heap; K::blank(); MOST_ITEMS]?;
     let mut tray = Tray::new(places.as_mut_slice());
     match kinds::load::<K>(text, &mut tray) {
         Ok(count) => {
@@ -91,34 +85,6 @@ fn read_text<K: Shown>(heap: Global, text: &[u8]) -> anyhow::Result<String> {
     }
 }
 
-// The value of a hexadecimal digit.
-fn hex_digit(b: u8) -> Option<u8>
-    ensures { IfSome result (λ v. v < 16) }
-{
-    match b {
-        b'0'..=b'9' => Some(b - b'0'),
-        b'a'..=b'f' => Some(b - b'a' + 10),
-        _ => None,
-    }
-}
-
-fn parse_hex(heap: Global, digits: &str) -> anyhow::Result<Vec<u8>> {
-    let mut bytes = Vec::new(heap);
-    if digits == "-" {
-        return Ok(bytes);
-    }
-    for pair in digits.as_bytes().chunks(2) {
-        let [high, low] = pair else {
-            return Err(anyhow!("an odd number of digits"));
-        };
-        let (Some(high), Some(low)) = (hex_digit(*high), hex_digit(*low)) else {
-            return Err(anyhow!("no hexadecimal digit"));
-        };
-        bytes.push(high * 16 + low)?;
-    }
-    Ok(bytes)
-}
-
 fn answer(heap: Global, what: &str, kind: &str, bytes: &[u8]) -> anyhow::Result<String> {
     match (what, kind) {
         ("line", "1") => read_line::<Job>(heap, bytes),
@@ -131,16 +97,10 @@ fn answer(heap: Global, what: &str, kind: &str, bytes: &[u8]) -> anyhow::Result<
 
 // Whether a sample is read as it says.
 fn agrees(heap: Global, sample: &str) -> anyhow::Result<bool> {
-    let Some((what, rest)) = sample.split_once(' ') else {
-        return Err(anyhow!("no sample"));
-    };
-    let Some((kind, rest)) = rest.split_once(' ') else {
-        return Err(anyhow!("no kind"));
-    };
-    let Some((digits, expected)) = rest.split_once(' ') else {
-        return Err(anyhow!("no bytes"));
-    };
-    let bytes = parse_hex(heap, digits)?;
+    let (what, rest) = sample.split_once(' ').ok_or_else(|| anyhow!("no sample"))?;
+    let (kind, rest) = rest.split_once(' ').ok_or_else(|| anyhow!("no kind"))?;
+    let (digits, expected) = rest.split_once(' ').ok_or_else(|| anyhow!("no bytes"))?;
+    let bytes = decode_field(heap, digits)?;
     let found = answer(heap, what, kind, bytes.as_slice())?;
     Ok(found.as_str() == expected)
 }

@@ -1,0 +1,122 @@
+//! Sample lines: the column that a reader has to answer, and the bytes to read.
+//!
+//! Each line of the input is a sample: the column, 0 for a line of the reader's
+//! set, and then the bytes in hexadecimal, as words that are joined. A word
+//! `8*2031` stands for 2031 eight times.
+
+#![tactic(auto)]
+
+ghost use Rattle.std.specs.Prelude.{ℕ, List, IfOk};
+ghost use Rattle.columns.specs.Answer.{Answers};
+ghost use Rattle.columns.specs.Spelling.{Spells, SpellsField};
+
+use anyhow::{Context, anyhow};
+use sealed::read_hex;
+use std::alloc::Global;
+
+// A reader of whole lines, by the columns that it answers. A trait, since a
+// closure would ask callers for more.
+pub trait Reader {
+    // the lines that it looks for
+    ghost lines: { List ℕ → Type 0 };
+
+    // The column of the fault in a line, 0 where there is none.
+    fn column(&self, line: &[u8]) -> usize
+        ensures { Answers lines line.now result };
+}
+
+#[derive(Drop)]
+struct Sample {
+    column: usize,
+    bytes: Vec<u8>,
+}
+
+// The bytes that a text spells in hexadecimal, with small letters.
+fn decode(heap: Global, text: &str) -> anyhow::Result<Vec<u8>>
+    ensures { IfOk result (λ bytes. Spells text.now bytes.items) }
+{
+    let (pairs, odd) = text.as_bytes().split_at(text.len() / 2 * 2);
+    let mut bytes = vec![in heap; 0u8; pairs.len() / 2]?;
+    read_hex(pairs, &mut bytes).context("no hexadecimal digit")?;
+    if !odd.is_empty() {
+        return Err(anyhow!("an odd number of digits"));
+    }
+    Ok(bytes)
+}
+
+// The same, with `-` for no bytes.
+pub fn decode_field(heap: Global, text: &str) -> anyhow::Result<Vec<u8>>
+    ensures { IfOk result (λ bytes. SpellsField text.now bytes.items) }
+{
+    match text {
+        "-" => Ok(Vec::new(heap)),
+        digits => decode(heap, digits),
+    }
+}
+
+// Appends what one word of a sample stands for.
+fn append_word(heap: Global, bytes: &mut Vec<u8>, word: &str) -> anyhow::Result<()> {
+    let (count, digits) = match word.split_once('*') {
+        Some((count, digits)) => (count.parse::<usize>()?, digits),
+        None => (1, word),
+    };
+    for _ in 0..count {
+        bytes.extend_from_slice(&decode(heap, digits)?)?;
+    }
+    Ok(())
+}
+
+fn parse_sample(heap: Global, text: &str) -> anyhow::Result<Sample> {
+    let mut words = text.split_whitespace();
+    let column = words.next().context("no column")?.parse::<usize>()?;
+    let mut bytes = Vec::new(heap);
+    for word in words {
+        append_word(heap, &mut bytes, word)?;
+    }
+    Ok(Sample { column, bytes })
+}
+
+// Runs a reader over the samples of the input, prints what it answers and says
+// how many agree.
+pub fn run<R: Reader>(rt: &(impl Input + Print + AllocGlobal), reader: &R) -> anyhow::Result<()> {
+    let mut agree = 0u64;
+    let mut all = 0u64;
+    for line in rt.lines(rt.alloc()) {
+        let sample = parse_sample(rt.alloc(), line?.as_str())?;
+        let column = reader.column(&sample.bytes);
+        println!(rt; "{column}")?;
+        all = all.wrapping_add(1);
+        if column == sample.column {
+            agree = agree.wrapping_add(1);
+        }
+    }
+    println!(rt; "{agree} of {all} agree")?;
+    Ok(())
+}
+
+#[cfg(test)]
+mod tests {
+    use super::*;
+
+    #[test]
+    fn spelled(rt: HostRuntime) -> anyhow::Result<()> {
+        assert_eq!(rt;
+            decode(rt.alloc(), "28ff0a")?.as_slice(),
+            &[40, 255, 10][..]
+        );
+        assert_eq!(rt; decode_field(rt.alloc(), "-")?.len(), 0);
+        assert_eq!(rt; decode_field(rt.alloc(), "7f")?.as_slice(), &[127][..]);
+        assert!(rt; decode(rt.alloc(), "0").is_err());
+        assert!(rt; decode(rt.alloc(), "0G").is_err());
+        assert!(rt; decode(rt.alloc(), "-").is_err());
+        Ok(())
+    }
+
+    #[test]
+    fn repeated(rt: HostRuntime) -> anyhow::Result<()> {
+        let sample = parse_sample(rt.alloc(), "13 28 3*2031 0a")?;
+        assert_eq!(rt; sample.column, 13);
+        assert_eq!(rt; sample.bytes.as_slice(), &b"( 1 1 1\n"[..]);
+        Ok(())
+    }
+}
