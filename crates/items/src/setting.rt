@@ -1,6 +1,7 @@
 //! Kind 2, settings: how the table is to work.
 
 ghost use Rattle.std.specs.Prelude.{◌≡◌, ℕ, true, [], ◌∷◌, ℤ, pos, MatchOption, ◌≢◌, int_le};
+ghost use Rattle.patterns.specs.declared.Range.{Range};
 ghost use Rattle.patterns.specs.Pattern.{Makes, fitting};
 ghost use Rattle.items.specs.declared.setting.SettingItem.TheVariants.{Tool};
 ghost use Rattle.items.specs.Setting.{setting_lawful, setting_line, setting_reading};
@@ -8,7 +9,7 @@ ghost use Rattle.items.specs.Settings.{setting_shaped, setting_bounded, setting_
 ghost use Rattle.std.proofs.Common.{rules};
 
 use kinds::Kind;
-use patterns::Range;
+use patterns::{Pattern, Range};
 use refusal::Refusal;
 
 #[derive(Clone, Copy, PartialEq, Eq, Debug)]
@@ -20,13 +21,6 @@ pub enum SettingItem {
     // a tool, and how far it stands off the middle of the head
     Tool { number: u16, offset: i32 },
 }
-
-// a line of each sort, with a `#` for each number
-const SPEED: &[u8] = b"(speed #)\n";
-
-const PRESS: &[u8] = b"(press #)\n";
-
-const TOOL: &[u8] = b"(tool # (offset #))\n";
 
 const SPEEDS: Range = Range { low: 1, high: 999 };
 
@@ -42,6 +36,22 @@ const OFFSETS: Range = Range {
     high: 999,
 };
 
+// a line of each sort
+const SPEED: Pattern<'static> = Pattern {
+    text: b"(speed #)\n",
+    ranges: &[SPEEDS],
+};
+
+const PRESS: Pattern<'static> = Pattern {
+    text: b"(press #)\n",
+    ranges: &[PRESSURES],
+};
+
+const TOOL: Pattern<'static> = Pattern {
+    text: b"(tool # (offset #))\n",
+    ranges: &[TOOL_NUMBERS, OFFSETS],
+};
+
 pub struct Setting;
 
 impl Kind for Setting {
@@ -49,11 +59,11 @@ impl Kind for Setting {
 
     const NUMBER: u8 = 2;
 
+    ghost NUMBER = { 2 };
+
     const LONGEST: usize = 23;
 
-    ghost tag = { 2 };
-
-    ghost most = { 23 };
+    ghost LONGEST = { 23 };
 
     ghost lawful = { setting_lawful };
 
@@ -73,66 +83,45 @@ impl Kind for Setting {
 
     ghost sound = { setting_sound };
 
-    fn its_number() -> u8 {
-        Self::NUMBER
-    }
-
-    fn its_longest() -> usize {
-        Self::LONGEST
-    }
-
     fn write(item: &SettingItem, out: &mut [u8]) -> Result<usize, Refusal> {
         match *item {
-            SettingItem::Speed(value) => {
-                patterns::write(SPEED, &[SPEEDS], &[i32::from(value)], out)
+            SettingItem::Speed(value) => SPEED.write(&[i32::from(value)], out),
+            SettingItem::Press(value) => PRESS.write(&[i32::from(value)], out),
+            SettingItem::Tool { number, offset } => {
+                TOOL.write(&[i32::from(number), offset], out)
             }
-            SettingItem::Press(value) => {
-                patterns::write(PRESS, &[PRESSURES], &[i32::from(value)], out)
-            }
-            SettingItem::Tool { number, offset } => patterns::write(
-                TOOL,
-                &[TOOL_NUMBERS, OFFSETS],
-                &[i32::from(number), offset],
-                out,
-            ),
         }
     }
 
     fn read(text: &[u8]) -> Option<SettingItem> {
-        if let Some(value) = read_lone(SPEED, SPEEDS, text) {
+        // no chain of `or_else`: a proof learns nothing of an item that a closure makes
+        if let Some(value) = read_lone(&SPEED, text) {
             return Some(SettingItem::Speed(value));
         }
-        if let Some(value) = read_lone(PRESS, PRESSURES, text) {
+        if let Some(value) = read_lone(&PRESS, text) {
             return Some(SettingItem::Press(value));
         }
-        if let Some(item) = read_tool(text) {
-            return Some(item);
-        }
-        None
+        read_tool(text)
     }
 }
 
 // The number of a line of a pattern that has no other; nothing exactly where
 // there is none, if the pattern has just that one.
-fn read_lone(pattern: &[u8], range: Range, text: &[u8]) -> Option<u16>
-    requires { (int_le (pos 0) range.low ≡ true) × (int_le range.high (pos 65535) ≡ true) }
-    ensures { MatchOption result (fitting pattern.now (range ∷ []) ≡ true → (n : ℕ) → Makes pattern.now (range ∷ []) text.now (pos n ∷ []) → ⊥) (λ n. Makes pattern.now (range ∷ []) text.now (pos n ∷ [])) }
+fn read_lone(pattern: &Pattern<'_>, text: &[u8]) -> Option<u16>
+    requires { (range : Range) × (pattern.now.ranges.now ≡ range ∷ []) × (int_le (pos 0) range.low ≡ true) × (int_le range.high (pos 65535) ≡ true) }
+    ensures { MatchOption result (fitting pattern.now.text.now pattern.now.ranges.now ≡ true → (n : ℕ) → Makes pattern.now.text.now pattern.now.ranges.now text.now (pos n ∷ []) → ⊥) (λ n. Makes pattern.now.text.now pattern.now.ranges.now text.now (pos n ∷ [])) }
 {
-    match patterns::read::<1>(pattern, &[range], text) {
-        Some(values) => Some(values[0] as u16),
-        None => None,
-    }
+    let [value] = pattern.read::<1>(text)?;
+    u16::try_from(value).ok()
 }
 
 // The tool of a line; nothing exactly where there is none.
 fn read_tool(text: &[u8]) -> Option<SettingItem>
     ensures { MatchOption result ((number : ℕ) (offset : ℤ) → setting_lawful (Tool number offset) ≡ true → setting_line (Tool number offset) ≢ text.now) (λ item. (setting_lawful item ≡ true) × (setting_line item ≡ text.now)) }
 {
-    match patterns::read::<2>(TOOL, &[TOOL_NUMBERS, OFFSETS], text) {
-        Some(values) => Some(SettingItem::Tool {
-            number: values[0] as u16,
-            offset: values[1],
-        }),
-        None => None,
-    }
+    let [number, offset] = TOOL.read::<2>(text)?;
+    Some(SettingItem::Tool {
+        number: u16::try_from(number).ok()?,
+        offset,
+    })
 }

@@ -1,12 +1,14 @@
 -- Cutting a text into lines.
-use Rattle.std.proofs.Common.{◌≡◌, ℕ, ◌+◌, ◌-◌, ◌<◌, eqb, List, [], ◌∷◌, ◌++◌, length, get_or, take, drop, sym, refl, ap, ◌∙◌, ⊎_elim, append_assoc, arith}
+use Rattle.std.proofs.Common.{◌≡◌, ℕ, ◌+◌, ◌-◌, ◌<◌, ◌≤◌, eqb, List, [], ◌∷◌, ◌++◌, length, get_or, take, drop, sym, refl, ap, ap₂, subst, min, ◌==◌, ◌∙◌, ⊎_elim, append_assoc, arith}
 use Rattle.std.specs.List.{flat_map, AllByRecursion}
 use Rattle.std.proofs.ByRecursion.{All-from_get_or, All-append, All-weaker}
-use Rattle.std.proofs.lemmas.List.{take-append-drop, length-take-le, get_or-take, drop_more, take_more, take_all, drop_all}
-use Rattle.std.proofs.lemmas.Bool.{cond-true, cond-false, ne_eqb, cases_Bool}
+use Rattle.std.proofs.lemmas.List.{take-append-drop, length-take-le, get_or-take, drop_more, take_more, take_all, drop_all, take_at, take_rest}
+use Rattle.std.proofs.lemmas.Bool.{cond-true, cond-false, ne_eqb, eqb-true, eqb-false, cases_lt, cases_Bool}
 use Rattle.shape.specs.Form.{Form, Args, form, none, number, inner, written, closed, Letter, Digit, Unsigned, Number, Shaped, ShapedArgs, WellShaped}
 use Rattle.shape.specs.Limits.{deepest}
-use Rattle.kinds.specs.Text.{onto, lines}
+use Rattle.std.specs.List.{IsFirstMatchOrLen}
+use Rattle.std.proofs.Math.Nat.{min-eq_left, min-eq_right}
+use Rattle.kinds.specs.Text.{onto, lines, FirstLine, NextLine}
 
 -- any byte but a line end
 abbrev pub Inner : ℕ → Type 0
@@ -24,7 +26,7 @@ lines_last b [] a = inner_goes b [] a.0
 lines_last b (x ∷ l) a = inner_goes b (x ∷ l) a.0 ∙ ap (onto b) (lines_last x l a.1)
 
 -- the line at the front of a text, up to its first line end
-pub first_whole : (t : List ℕ) (n : ℕ) → n < length t → get_or t n 0 ≡ 10 → ((k : ℕ) → k < n → get_or t k 0 ≡ 10 → ⊥) → lines t ≡ take (n + 1) t ∷ lines (drop (n + 1) t)
+first_whole : (t : List ℕ) (n : ℕ) → n < length t → get_or t n 0 ≡ 10 → ((k : ℕ) → k < n → get_or t k 0 ≡ 10 → ⊥) → lines t ≡ take (n + 1) t ∷ lines (drop (n + 1) t)
 first_whole t n l e none' =
     let a : AllByRecursion Inner (take n t) = All-from_get_or Inner (take n t) 0 (λ i h. let k : i < n = omega (arith, length-take-le n t (omega arith)) in λ z. none' i k (sym (get_or-take n t i 0 k) ∙ z)) in
     let d : drop n t ≡ 10 ∷ drop (n + 1) t = drop_more t n 0 l ∙ ap (λ z. z ∷ drop (n + 1) t) e in
@@ -36,17 +38,31 @@ first_last : (t : List ℕ) → 0 < length t → ((k : ℕ) → k < length t →
 first_last [] l none' = absurd (omega arith)
 first_last (b ∷ t) l none' = lines_last b t (All-from_get_or Inner (b ∷ t) 0 none')
 
-pub last_cut : (t : List ℕ) → 0 < length t → ((k : ℕ) → k < length t → get_or t k 0 ≡ 10 → ⊥) → lines t ≡ take (length t) t ∷ lines (drop (length t) t)
+last_cut : (t : List ℕ) → 0 < length t → ((k : ℕ) → k < length t → get_or t k 0 ≡ 10 → ⊥) → lines t ≡ take (length t) t ∷ lines (drop (length t) t)
 last_cut t l none' = first_last t l none' ∙ ap (λ z. z ∷ []) (sym (take_all (length t) t (omega arith))) ∙ ap (λ z. take (length t) t ∷ lines z) (sym (drop_all (length t) t (omega arith)))
 
--- a text that is not empty has a line
-onto_some : (b : ℕ) (ls : List (List ℕ)) → 0 < length (onto b ls)
-onto_some b [] = omega arith
-onto_some b (l ∷ ls) = omega arith
+-- the piece at the front of a text, up to and with the first line end, is its first line
+pub first_line : (t : List ℕ) (i : ℕ) → IsFirstMatchOrLen (λ b. b == 10) t i → FirstLine t (min (i + 1) (length t))
+first_line t i m = ⊎_elim whole last (cases_lt i (length t))
+  where
+    other : (k : ℕ) → k < i → get_or t k 0 ≡ 10 → ⊥
+    other k h = eqb-false (get_or t k 0) 10 (m.0 k 0 (omega arith) h)
 
-pub lines_some : (t : List ℕ) → 0 < length t → 0 < length (lines t)
-lines_some [] h = absurd (omega arith)
-lines_some (b ∷ t) h = ⊎_elim (λ e. rw (cond-true (eqb b 10) ((b ∷ []) ∷ lines t) (onto b (lines t)) e) (omega arith)) (λ e. rw (cond-false (eqb b 10) ((b ∷ []) ∷ lines t) (onto b (lines t)) e) (onto_some b (lines t))) (cases_Bool (eqb b 10))
+    whole : i < length t → FirstLine t (min (i + 1) (length t))
+    whole h = let e : min (i + 1) (length t) ≡ i + 1 = min-eq_left (omega arith) in rw e (omega arith, λ _. (omega arith, first_whole t i h (eqb-true (get_or t i 0) 10 (m.1 h 0)) other))
+
+    last : length t ≤ i → FirstLine t (min (i + 1) (length t))
+    last h = let e : min (i + 1) (length t) ≡ length t = min-eq_right (omega arith) in rw e (omega arith, λ s. (s, last_cut t s (λ k l. other k (omega arith))))
+
+pub first_piece : (t x rest : List ℕ) (i : ℕ) → t ≡ x ++ rest → length x ≡ min (i + 1) (length t) → IsFirstMatchOrLen (λ b. b == 10) t i → 0 < length t → NextLine t 0 x
+first_piece t x rest i e n m some =
+    let f = subst (λ k. FirstLine t k) (sym n) (first_line t i m) in
+    let s = f.1 some in
+    record { some = s.0; fits = omega (arith, f.0); cut = s.1 ∙ ap₂ (λ y k. y ∷ lines (drop k t)) (ap (take (length x)) e ∙ take_at x rest (length x) refl) (omega arith) }
+
+-- the same of a text that the code has by another name, and of the rest as the code cuts it off
+pub piece_cut : (t s x : List ℕ) → s ≡ t → NextLine s 0 x → lines t ≡ x ∷ lines (take (length t - length x) (drop (length x) t))
+piece_cut t s x is n = subst (λ y. lines y ≡ x ∷ lines (take (length y - length x) (drop (length x) y))) is (n.cut ∙ ap (λ z. x ∷ lines z) (ap (λ k. drop k s) (omega arith) ∙ sym (take_rest s (length x))))
 
 -- the lines joined are the text
 onto_joins : (b : ℕ) (ls : List (List ℕ)) → flat_map (λ l. l) (onto b ls) ≡ b ∷ flat_map (λ l. l) ls

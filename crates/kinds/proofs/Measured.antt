@@ -1,5 +1,5 @@
 -- The steps of measuring and writing a list item by item.
-use Rattle.std.proofs.Common.{◌≡◌, ℕ, ◌+◌, ◌<◌, ◌≤◌, Bool, true, false, List, [], ◌∷◌, ◌++◌, length, get_or, take, drop, Ok, Err, Result, sym, refl, ap, ◌∙◌, subst, ⊎_elim, arith, length-append}
+use Rattle.std.proofs.Common.{◌≡◌, ℕ, ◌+◌, ◌<◌, ◌≤◌, Bool, true, false, List, [], ◌∷◌, ◌++◌, length, get_or, take, drop, Ok, Err, Some, None, Option, MatchOption, ok_or, sym, refl, ap, ◌∙◌, subst, ⊎_elim, arith, length-append}
 use Rattle.std.specs.List.{flat_map}
 use Rattle.std.proofs.ByRecursion.{All-more}
 use Rattle.std.proofs.lemmas.List.{take_more, flat_map_more, take_all, get_or_default, at_drop_more, at_drop_all}
@@ -61,10 +61,14 @@ module _ {X : Type 0} (lawful : X → Bool) (line : X → List ℕ) (xs : List X
     pub measured_all : length xs ≤ most_items → total ≤ most_bytes → Sheet lawful line xs × (total ≡ length (text_of line xs))
     measured_all few l = (record { all_lawful = measured_lawful; few = few; short = omega (arith, counted.exact l) }, counted.exact l)
 
+-- The length of an item's line, or else a refusal: which of the two it is says whether the item is lawful.
+pub told_len : (lawful : Bool) (w : List ℕ) (o : Option ℕ) (why : Refusal) → MatchOption o (lawful ≡ false) (λ n. (lawful ≡ true) × (n ≡ length w) × (n ≤ longest_line)) → ((n : ℕ) → Ok n ≡ ok_or o why → (lawful ≡ true) × (n ≡ length w) × (n ≤ longest_line)) × ((e : Refusal) → Err e ≡ ok_or o why → (lawful ≡ false) × (e ≡ why))
+told_len b w (Some n) why m = ((λ k e. let same : k ≡ n = cc in rw same m), (λ k e. absurd (let z : ◌≡◌ {A = ℕ} 0 1 = cc in omega arith)))
+told_len b w None why m = ((λ k e. absurd (let z : ◌≡◌ {A = ℕ} 0 1 = cc in omega arith)), (λ k e. (m, cc)))
+
 -- Writing an item: a lawful one is not refused where its line fits.
-pub write_granted : (lawful : Bool) (w before after : List ℕ) (r : Result ℕ Refusal) → lawful ≡ true → length w ≤ length before → Writes lawful w before after r → ((n : ℕ) → r ≡ Ok n → ⊥) → ⊥
-write_granted b w before after (Ok n) e room k never = never n refl
-write_granted b w before after (Err x) e room k never = ⊎_elim (λ p. both_ways b p.0 e) (λ p. omega (arith, p.1)) k.0
+pub write_granted : (lawful : Bool) (w before after : List ℕ) (e : Refusal) → lawful ≡ true → length w ≤ length before → Writes lawful w before after (Err e) → ⊥
+write_granted b w before after e good room k = ⊎_elim (λ p. both_ways b p.0 good) (λ p. omega (arith, p.1)) k.0
 
 -- the text from an item on
 pub next_text : {X : Type 0} (line : X → List ℕ) (xs : List X) (i : ℕ) (x : X) → i < length xs → x ≡ get_or xs i x → text_of line (drop i xs) ≡ line x ++ text_of line (drop (i + 1) xs)

@@ -18,13 +18,12 @@ pub trait Kind {
 
     const NUMBER: u8;
 
+    ghost NUMBER: { ℕ };
+
     // bytes of its longest line, the line end counted
     const LONGEST: usize;
 
-    // The two constants, for clauses, which cannot name them.
-    ghost tag: { ℕ };
-
-    ghost most: { ℕ };
+    ghost LONGEST: { ℕ };
 
     ghost lawful: { Self.Item → Bool };
 
@@ -32,12 +31,6 @@ pub trait Kind {
 
     // the lawful item that has this line
     ghost reading: { List ℕ → Option (Self.Item) };
-
-    fn its_number() -> u8
-        ensures { result ≡ tag };
-
-    fn its_longest() -> usize
-        ensures { result ≡ most };
 
     // Writes the item's line to the front of `out` and answers its length.
     fn write(item: &Self::Item, out: &mut [u8]) -> Result<usize, Refusal>
@@ -47,13 +40,13 @@ pub trait Kind {
     fn read(text: &[u8]) -> Option<Self::Item>
         ensures { result ≡ reading text.now };
 
-    ghost numbered: { (1 ≤ tag) × (tag ≤ most_kinds) };
+    ghost numbered: { (1 ≤ NUMBER) × (NUMBER ≤ most_kinds) };
 
-    ghost short: { most ≤ longest_line };
+    ghost short: { LONGEST ≤ longest_line };
 
     ghost shaped: { (x : Self.Item) → lawful x ≡ true → WellShaped (line x) };
 
-    ghost bounded: { (x : Self.Item) → lawful x ≡ true → length (line x) ≤ most };
+    ghost bounded: { (x : Self.Item) → lawful x ≡ true → length (line x) ≤ LONGEST };
 
     ghost found: { (x : Self.Item) → lawful x ≡ true → reading (line x) ≡ Some x };
 

@@ -1,7 +1,8 @@
 //! The text of a list of items: the lines of the items, joined.
 
 ghost use Rattle.std.specs.Prelude.{◌≡◌, ℕ, ◌<◌, ◌≤◌, true, false, List, ◌++◌, length, drop, MatchOption};
-ghost use Rattle.kinds.specs.Text.{AllLawful, Checks, ColumnOf, Fills, FirstLine, Measures, NextLine, OneAnswer, Reads, ReadsItsText, SameText, WritesText, text_of};
+ghost use Rattle.kinds.specs.Text.{AllLawful, Checks, ColumnOf, Fills, Measures, OneAnswer, Reads, ReadsItsText, SameText, WritesText, lines, text_of};
+ghost use Rattle.std.specs.Iterator.{YieldsFirstRef, item_count};
 
 use crate::kind::{Kind, LONGEST_LINE};
 use refusal::Refusal;
@@ -11,6 +12,28 @@ pub const MOST_ITEMS: usize = 1_024;
 // bytes of a sheet's text
 pub const MOST_BYTES: usize = 16_384;
 
+// The lines of a text, each up to and with its line end; the last piece may
+// lack its own. A type with no closure in it, since a generic function's loop
+// over an iterator with one is not proved yet.
+#[derive(Drop)]
+struct Lines<'a> {
+    rest: &'a [u8],
+}
+
+impl<'a> Iterator for Lines<'a> {
+    type Item = &'a [u8];
+
+    ghost next_gives = { YieldsFirstRef (λ s. lines s.rest.now) };
+
+    ghost remaining = { item_count (λ s. lines s.rest.now) };
+
+    fn next(&mut self) -> Option<&'a [u8]> {
+        let line = self.rest.split_inclusive(|b| *b == b'\n').next()?;
+        self.rest = &self.rest[line.len()..];
+        Some(line)
+    }
+}
+
 // The length of the text of a list that makes a sheet. The first unlawful item
 // is refused, wherever it stands, then a list with too many items or bytes.
 pub fn measure<K: Kind>(items: &[K::Item]) -> Result<usize, Refusal>
@@ -18,9 +41,8 @@ pub fn measure<K: Kind>(items: &[K::Item]) -> Result<usize, Refusal>
 {
     let mut total = 0;
     for (index, item) in items.iter().enumerate() {
-        let Some(len) = line_len::<K>(item) else {
-            return Err(Refusal::UnlawfulItem { index });
-        };
+        let len = line_len::<K>(item).ok_or(Refusal::UnlawfulItem { index })?;
+        // Past the limit the sum stops, so that it cannot overflow.
         if total <= MOST_BYTES {
             total += len;
         }
@@ -42,22 +64,13 @@ pub fn write_text<K: Kind>(items: &[K::Item], out: &mut [u8]) -> Result<usize, R
     if out.len() < len {
         return Err(Refusal::ShortOutput);
     }
-    write_lines::<K>(items, out);
-    Ok(len)
-}
-
-// Writes the lines of the items, one after the other.
-fn write_lines<K: Kind>(items: &[K::Item], out: &mut [u8])
-    requires { (AllLawful K.Kind.lawful items.now) × (length (text_of K.Kind.line items.now) ≤ length out.old) }
-    ensures { out.new ≡ text_of K.Kind.line items.now ++ drop (length (text_of K.Kind.line items.now)) out.old }
-{
+    // By a place: the rest of a buffer could only be kept by taking it out of its variable.
     let mut at = 0;
     for item in items {
-        let Ok(n) = K::write(item, &mut out[at..]) else {
-            return;
-        };
+        let n = K::write(item, &mut out[at..])?;
         at += n;
     }
+    Ok(len)
 }
 
 // Whether a text is a sheet: how many items it is read as, or the first faulty
@@ -69,24 +82,21 @@ pub fn check<K: Kind>(text: &[u8]) -> Result<usize, Refusal>
     ensures one { OneAnswer K.Kind.reading }
     ensures inverse { ReadsItsText K.Kind.lawful K.Kind.line K.Kind.reading }
 {
-    let mut at = 0;
+    // Counted by hand, since the count is the answer, too.
     let mut count = 0;
-    while at < text.len() {
+    for line in (Lines { rest: text }) {
         if count == MOST_ITEMS {
             return Err(Refusal::NoSheet {
                 line: count + 1,
                 column: 0,
             });
         }
-        let line = next_line(text, at);
-        let Some(_) = K::read(line) else {
-            let column = fault_column(line);
+        if K::read(line).is_none() {
             return Err(Refusal::NoSheet {
                 line: count + 1,
-                column,
+                column: fault_column(line),
             });
-        };
-        at += line.len();
+        }
         count += 1;
     }
     Ok(count)
@@ -110,26 +120,13 @@ fn fill_places<K: Kind>(text: &[u8], items: &mut [K::Item])
     requires { (xs : List K.Item) × Reads K.Kind.reading text.now xs × (length xs ≤ length items.old) }
     ensures { (xs : List K.Item) → Reads K.Kind.reading text.now xs → items.new ≡ xs ++ drop (length xs) items.old }
 {
-    let mut at = 0;
-    let mut count = 0;
-    while at < text.len() {
-        let line = next_line(text, at);
+    // written by place: after a `zip` with `iter_mut` no item would be known
+    for (place, line) in (Lines { rest: text }).enumerate() {
         let Some(item) = K::read(line) else {
             return;
         };
-        items[count] = item;
-        at += line.len();
-        count += 1;
+        items[place] = item;
     }
-}
-
-// The line that stands in a text from a place on.
-fn next_line(text: &[u8], at: usize) -> &[u8]
-    requires { at < length text.now }
-    ensures { NextLine text.now at result.now }
-{
-    let rest = &text[at..];
-    &rest[0..first_line(rest)]
 }
 
 // The length of an item's line, if it is lawful.
@@ -140,25 +137,9 @@ fn line_len<K: Kind>(item: &K::Item) -> Option<usize>
     K::write(item, &mut line).ok()
 }
 
-// The length of the line at the front of a text, up to and with its line end;
-// a text without one is a line as a whole.
-fn first_line(text: &[u8]) -> usize
-    ensures { FirstLine text.now result }
-{
-    for (i, b) in text.iter().enumerate() {
-        if *b == b'\n' {
-            return i + 1;
-        }
-    }
-    text.len()
-}
-
 // The column of the fault in a line that no item has: 0 for a well-shaped line.
 fn fault_column(line: &[u8]) -> usize
     ensures { ColumnOf line.now result }
 {
-    match shape::read(line) {
-        Ok(()) => 0,
-        Err(column) => column,
-    }
+    shape::read(line).err().unwrap_or(0)
 }

@@ -1,16 +1,17 @@
 //! Trays: places that the caller lends for items, and how many of them are filled.
 
-ghost use Rattle.std.specs.Prelude.{◌≡◌, ℕ, ◌+◌, ◌<◌, length, take, if◌then◌else◌, Ok, Err, MatchResult, nat_lt, slice_set};
+ghost use Rattle.std.specs.Prelude.{◌≡◌, ℕ, ◌+◌, ◌<◌, length, take, if◌then◌else◌, Ok, Err, nat_lt, slice_set};
 ghost use Rattle.std.specs.List.{slice_get};
 ghost use Rattle.refusal.specs.declared.Refusal.TheVariants.{SmallTray};
-ghost use Rattle.kinds.specs.Held.{held};
-ghost use Rattle.kinds.specs.Text.{Fills};
+ghost use Rattle.kinds.specs.Held.{Loads, held};
 
 use crate::kind::Kind;
 use crate::text::fill;
 use refusal::Refusal;
 
-// Items of one type, in their order, in places that the caller lends.
+// Items of one type, in their order, in places that the caller lends. The count
+// stands beside the places, since a box has no heap; no contract needs to know
+// that it is within them.
 #[derive(Drop)]
 pub struct Tray<'a, T> {
     items: &'a mut [T],
@@ -38,19 +39,14 @@ impl<'a, T: Copy> Tray<'a, T> {
     pub fn as_slice(&self) -> &[T]
         ensures { result.now ≡ held self.now }
     {
-        filled(self.items, self.count)
+        &self.items[..self.count.min(self.items.len())]
     }
 
     // The item at an index; nothing at or past the count.
     pub fn get(&self, index: usize) -> Option<T>
         ensures { result ≡ slice_get (held self.now) index }
     {
-        let items = self.as_slice();
-        if index < items.len() {
-            Some(items[index])
-        } else {
-            None
-        }
+        self.as_slice().get(index).copied()
     }
 
     // Adds an item after the last; refused exactly where every place is filled.
@@ -63,8 +59,7 @@ impl<'a, T: Copy> Tray<'a, T> {
         if self.count >= self.items.len() {
             return Err(Refusal::SmallTray);
         }
-        let index = self.count;
-        put(self.items, index, item);
+        self.items[self.count] = item;
         self.count += 1;
         Ok(())
     }
@@ -79,37 +74,12 @@ impl<'a, T: Copy> Tray<'a, T> {
     }
 }
 
-// The first `count` places, or all if they are fewer.
-fn filled<T>(items: &[T], count: usize) -> &[T]
-    ensures { result.now ≡ take count items.now }
-{
-    if count < items.len() {
-        &items[0..count]
-    } else {
-        items
-    }
-}
-
-// Puts an item into one place.
-fn put<T: Copy>(items: &mut [T], index: usize, item: T)
-    requires { index < length items.old }
-    ensures { items.new ≡ slice_set items.old index item }
-{
-    items[index] = item;
-}
-
 // Reads a text into the tray: its items replace what the tray held, and their
 // count is answered. A refusal leaves the tray as it was.
 pub fn load<K: Kind>(text: &[u8], tray: &mut Tray<'_, K::Item>) -> Result<usize, Refusal>
-    ensures answer { Fills K.Kind.reading text.now tray.old.items.now tray.new.items.now result }
-    ensures count { MatchResult result (λ n. tray.new.count ≡ n) (λ _. tray.new.count ≡ tray.old.count) }
-    ensures lent { tray.new.items.ghost_name ≡ tray.old.items.ghost_name }
+    ensures { Loads K.Kind.reading text.now tray.old tray.new result }
 {
-    match fill::<K>(text, tray.items) {
-        Ok(count) => {
-            tray.count = count;
-            Ok(count)
-        }
-        Err(why) => Err(why),
-    }
+    let count = fill::<K>(text, tray.items)?;
+    tray.count = count;
+    Ok(count)
 }

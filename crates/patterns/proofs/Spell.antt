@@ -1,13 +1,15 @@
 -- The line that a pattern and values make, byte by byte of the pattern.
-use Rattle.std.proofs.Common.{◌≡◌, ℕ, suc, ◌+◌, ◌-◌, ◌<◌, ◌≤◌, true, false, cond, ◌&&◌, eqb, ltb, leb, List, [], ◌∷◌, ◌++◌, length, get_or, drop, ℤ, nat_abs, Some, None, Option, unwrap_or, refl, ap, ◌∙◌, subst, ap₂, ⊎_elim, arith, length-append}
+use Rattle.std.proofs.Common.{◌≡◌, ℕ, suc, ◌+◌, ◌-◌, ◌<◌, ◌≤◌, true, false, cond, ◌&&◌, eqb, ltb, leb, List, [], ◌∷◌, ◌++◌, length, get_or, drop, ℤ, nat_abs, Some, None, Option, MatchOption, IfSome, MatchBool, Bool, Bor, Iter, zero, sym, refl, ap, ◌∙◌, subst, ap₂, ⊎_elim, arith, length-append}
 use lib.Signed.{le_z}
-use Rattle.std.proofs.lemmas.List.{drop_more, drop_all, drop-drop}
-use Rattle.std.proofs.lemmas.Bool.{cond-true, cond-false, eq-eqb, ne_eqb, and_parts, ltb-true, leb-true, cases_Bool, cases_eq, false≢true}
-use Rattle.shape.specs.Decimal.{digits, InRange, MeasuresNumber, WritesNumber}
+use Rattle.std.proofs.lemmas.List.{nil_from_length, drop_more, drop_all}
+use Rattle.std.proofs.lemmas.Bool.{cond-true, cond-false, eq-eqb, ne_eqb, and_parts, and_from, ltb-true, leb-true, cases_Bool, cases_eq, false≢true}
+use Rattle.shape.specs.Decimal.{digits, InRange}
 use Rattle.shape.specs.Limits.{bound}
 use Rattle.kinds.proofs.Overwrite.{Over, over_room}
 use Rattle.patterns.specs.declared.Range.{Range}
-use Rattle.patterns.specs.Pattern.{first_digits, spelt, within, in_ranges, AllInRange, FitsRoom}
+use Rattle.std.specs.List.{AllWithin, HoldsAt, zip}
+use Rattle.std.specs.Option.{option_copied}
+use Rattle.patterns.specs.Pattern.{first_digits, digits_of, spelt, within, in_ranges, AllInRange, FitsRoom}
 
 pub spelt_number : (b : ℕ) (p : List ℕ) (vs : List ℤ) → b ≡ 35 → spelt (b ∷ p) vs ≡ first_digits vs ++ spelt p (drop 1 vs)
 spelt_number b p vs e = let t = eq-eqb b 35 e in ap₂ (λ x y. x ++ spelt p y) (cond-true (eqb b 35) (first_digits vs) (b ∷ []) t) (cond-true (eqb b 35) (drop 1 vs) vs t)
@@ -15,61 +17,63 @@ spelt_number b p vs e = let t = eq-eqb b 35 e in ap₂ (λ x y. x ++ spelt p y) 
 pub spelt_byte : (b : ℕ) (p : List ℕ) (vs : List ℤ) → (b ≡ 35 → ⊥) → spelt (b ∷ p) vs ≡ b ∷ spelt p vs
 spelt_byte b p vs e = let t = ne_eqb b 35 e in ap₂ (λ x y. x ++ spelt p y) (cond-false (eqb b 35) (first_digits vs) (b ∷ []) t) (cond-false (eqb b 35) (drop 1 vs) vs t)
 
-module _ (p : List ℕ) (vs : List ℤ) (i next : ℕ) where
-  pub next_number : i < length p → get_or p i 0 ≡ 35 → spelt (drop i p) (drop next vs) ≡ first_digits (drop next vs) ++ spelt (drop (i + 1) p) (drop (next + 1) vs)
-  next_number h e = ap (λ q. spelt q (drop next vs)) (drop_more p i 0 h) ∙ spelt_number (get_or p i 0) (drop (i + 1) p) (drop next vs) e ∙ ap (λ ws. first_digits (drop next vs) ++ spelt (drop (i + 1) p) ws) (drop-drop 1 next vs)
+-- what is to come from a place of the pattern on, with these values left
+module _ (p : List ℕ) (left : List ℤ) (i : ℕ) where
+  pub next_number : i < length p → get_or p i 0 ≡ 35 → spelt (drop i p) left ≡ first_digits left ++ spelt (drop (i + 1) p) (drop 1 left)
+  next_number h e = ap (λ q. spelt q left) (drop_more p i 0 h) ∙ spelt_number (get_or p i 0) (drop (i + 1) p) left e
 
-  pub next_byte : i < length p → (get_or p i 0 ≡ 35 → ⊥) → spelt (drop i p) (drop next vs) ≡ get_or p i 0 ∷ spelt (drop (i + 1) p) (drop next vs)
-  next_byte h e = ap (λ q. spelt q (drop next vs)) (drop_more p i 0 h) ∙ spelt_byte (get_or p i 0) (drop (i + 1) p) (drop next vs) e
+  pub next_byte : i < length p → (get_or p i 0 ≡ 35 → ⊥) → spelt (drop i p) left ≡ get_or p i 0 ∷ spelt (drop (i + 1) p) left
+  next_byte h e = ap (λ q. spelt q left) (drop_more p i 0 h) ∙ spelt_byte (get_or p i 0) (drop (i + 1) p) left e
 
-  pub no_more : length p ≤ i → spelt (drop i p) (drop next vs) ≡ []
-  no_more h = ap (λ q. spelt q (drop next vs)) (drop_all i p h)
+  pub no_more : length p ≤ i → spelt (drop i p) left ≡ []
+  no_more h = ap (λ q. spelt q left) (drop_all i p h)
 
--- the digits of the value at a place
-pub first_at : (vs : List ℤ) (next : ℕ) (d : ℤ) → next < length vs → first_digits (drop next vs) ≡ digits (get_or vs next d)
-first_at vs next d h = ap first_digits (drop_more vs next d h)
+-- the value that the iterator of the values gives next, and those after it
+module _ (s t : Iter ℤ) (x : Option (Bor ℤ)) (v : Option ℤ) (is : v ≡ option_copied x) (step : MatchOption x ((length s.rest.now ≡ 0) × (t ≡ s)) (λ y. s.rest.now ≡ y.now ∷ t.rest.now)) where
+  pub took : (digits_of v ≡ first_digits s.rest.now) × (drop 1 s.rest.now ≡ t.rest.now)
+  took = rw is (by x step)
+    where
+      by : (x : Option (Bor ℤ)) → MatchOption x ((length s.rest.now ≡ 0) × (t ≡ s)) (λ y. s.rest.now ≡ y.now ∷ t.rest.now) → (digits_of (option_copied x) ≡ first_digits s.rest.now) × (drop 1 s.rest.now ≡ t.rest.now)
+      by None k = let e = nil_from_length s.rest.now k.0 in (sym (ap first_digits e), ap (drop 1) e ∙ sym (ap (λ z. z.rest.now) k.1 ∙ e))
+      by (Some y) k = (sym (ap first_digits k), ap (drop 1) k)
 
-pub first_past : (vs : List ℤ) (next : ℕ) → length vs ≤ next → first_digits (drop next vs) ≡ []
-first_past vs next h = ap first_digits (drop_all next vs h)
-
-pub length_value : (z : ℤ) (o : Option ℕ) → InRange z → MeasuresNumber z o → unwrap_or o 0 ≡ length (digits z)
-length_value z None h m = absurd (m h)
-length_value z (Some n) h m = m.1
-
-pub put_value : (z : ℤ) (before after : List ℕ) (o : Option ℕ) → InRange z → length (digits z) ≤ length before → WritesNumber z before after o → (unwrap_or o 0 ≡ length (digits z)) × (after ≡ digits z ++ drop (unwrap_or o 0) before)
-put_value z before after None h room w = absurd (omega (arith, w.0 h))
-put_value z before after (Some n) h room w = (w.1, w.3)
+  pub took_in_range : AllInRange s.rest.now → IfSome v InRange × AllInRange t.rest.now
+  took_in_range a = rw is (by x step a)
+    where
+      by : (x : Option (Bor ℤ)) → MatchOption x ((length s.rest.now ≡ 0) × (t ≡ s)) (λ y. s.rest.now ≡ y.now ∷ t.rest.now) → AllInRange s.rest.now → IfSome (option_copied x) InRange × AllInRange t.rest.now
+      by None k a = (tt, subst (λ z. AllInRange z.rest.now) (sym k.1) a)
+      by (Some y) k a = subst (λ l. AllInRange l) k a
 
 -- measuring
-pub record Measured (p : List ℕ) (vs : List ℤ) (room i next len : ℕ) : Type 0 where
+pub record Measured (p : List ℕ) (vs : List ℤ) (room i len : ℕ) (left : List ℤ) : Type 0 where
   pub fits : len ≤ room
-  pub counted : next ≤ i
-  pub whole : length (spelt p vs) ≡ len + length (spelt (drop i p) (drop next vs))
+  pub in_range : AllInRange left
+  pub whole : length (spelt p vs) ≡ len + length (spelt (drop i p) left)
 
-pub measured_none : (p : List ℕ) (vs : List ℤ) (room : ℕ) → Measured p vs room 0 0 0
-measured_none p vs room = record { fits = omega arith; counted = omega arith; whole = omega arith }
+-- one byte of the pattern makes so many bytes
+pub record Piece (p : List ℕ) (i size : ℕ) (left after : List ℤ) : Type 0 where
+  pub in_range : AllInRange left → AllInRange after
+  pub long : length (spelt (drop i p) left) ≡ size + length (spelt (drop (i + 1) p) after)
 
--- one byte of the pattern makes so many bytes, and uses so many values
-pub record Piece (p : List ℕ) (vs : List ℤ) (i next size after : ℕ) : Type 0 where
-  pub uses : after ≤ next + 1
-  pub long : length (spelt (drop i p) (drop next vs)) ≡ size + length (spelt (drop (i + 1) p) (drop after vs))
+module _ (p : List ℕ) (i size : ℕ) (left after : List ℤ) (h : i < length p) where
+  pub piece_number : get_or p i 0 ≡ 35 → (v : Option ℤ) → (digits_of v ≡ first_digits left) × (drop 1 left ≡ after) → (AllInRange left → IfSome v InRange × AllInRange after) → size ≡ length (digits_of v) → Piece p i size left after
+  piece_number e v t r s = record {
+    in_range = λ a. (r a).1;
+    long = ap length (next_number p left i h e) ∙ length-append (first_digits left) (spelt (drop (i + 1) p) (drop 1 left)) ∙ ap₂ (λ m ws. m + length (spelt (drop (i + 1) p) ws)) (sym (s ∙ ap length t.0)) t.1;
+  }
 
-module _ (p : List ℕ) (vs : List ℤ) (i next size after : ℕ) (h : i < length p) where
-  pub piece_number : get_or p i 0 ≡ 35 → size ≡ length (first_digits (drop next vs)) → after ≡ next + 1 → Piece p vs i next size after
-  piece_number e s a = record { uses = omega arith; long = ap length (next_number p vs i next h e) ∙ length-append (first_digits (drop next vs)) (spelt (drop (i + 1) p) (drop (next + 1) vs)) ∙ (rw (s, a) refl) }
+  pub piece_byte : (get_or p i 0 ≡ 35 → ⊥) → size ≡ 1 → after ≡ left → Piece p i size left after
+  piece_byte e s a = record { in_range = λ k. subst (λ l. AllInRange l) (sym a) k; long = ap length (next_byte p left i h e) ∙ (rw (s, a) (omega arith)) }
 
-  pub piece_byte : (get_or p i 0 ≡ 35 → ⊥) → size ≡ 1 → after ≡ next → Piece p vs i next size after
-  piece_byte e s a = record { uses = omega arith; long = ap length (next_byte p vs i next h e) ∙ (rw (s, a) (omega arith)) }
-
-module _ (p : List ℕ) (vs : List ℤ) (room i next len size after : ℕ) (m : Measured p vs room i next len) (k : Piece p vs i next size after) where
-  pub measured_more : size ≤ room - len → Measured p vs room (i + 1) after (len + size)
-  measured_more h = record { fits = omega (arith, m.fits); counted = omega (arith, m.counted, k.uses); whole = omega (arith, m.whole, k.long) }
+module _ (p : List ℕ) (vs : List ℤ) (room i len size : ℕ) (left after : List ℤ) (m : Measured p vs room i len left) (k : Piece p i size left after) where
+  pub measured_more : size ≤ room - len → Measured p vs room (i + 1) (len + size) after
+  measured_more h = record { fits = omega (arith, m.fits); in_range = k.in_range m.in_range; whole = omega (arith, m.whole, k.long) }
 
   pub measured_short : room - len < size → FitsRoom (spelt p vs) room None
   measured_short h = omega (arith, m.whole, k.long, m.fits)
 
-pub measured_all : (p : List ℕ) (vs : List ℤ) (room i next len : ℕ) → Measured p vs room i next len → length p ≤ i → FitsRoom (spelt p vs) room (Some len)
-measured_all p vs room i next len m h = (omega (arith, m.whole, ap length (no_more p vs i next h)), m.fits)
+pub measured_all : (p : List ℕ) (vs : List ℤ) (room i len : ℕ) (left : List ℤ) → Measured p vs room i len left → length p ≤ i → FitsRoom (spelt p vs) room (Some len)
+measured_all p vs room i len left m h = (omega (arith, m.whole, ap length (no_more p left i h)), m.fits)
 
 -- values in their ranges are as many, and lines can hold them
 pub within_in_range : (r : Range) (v : ℤ) → within r v ≡ true → InRange v
@@ -87,26 +91,44 @@ in_ranges_all (r ∷ rs) (v ∷ vs) e =
 pub other_count : (rs : List Range) (vs : List ℤ) → (length rs ≡ length vs → ⊥) → in_ranges rs vs ≡ false
 other_count rs vs ne = ⊎_elim (λ e. absurd (ne (in_ranges_all rs vs e).1)) (λ e. e) (cases_Bool (in_ranges rs vs))
 
--- one range after the other
-pub in_ranges_next : (rs : List Range) (vs : List ℤ) (i : ℕ) (r : Range) (v : ℤ) → i < length rs → i < length vs → in_ranges (drop i rs) (drop i vs) ≡ (within (get_or rs i r) (get_or vs i v) && in_ranges (drop (i + 1) rs) (drop (i + 1) vs))
-in_ranges_next rs vs i r v h k = ap (λ qs. in_ranges qs (drop i vs)) (drop_more rs i r h) ∙ ap (λ ws. in_ranges (get_or rs i r ∷ drop (i + 1) rs) ws) (drop_more vs i v k)
+-- a range and a value, and what the test of all of them says
+abbrev pub Held : Range × ℤ → Type 0
+Held p = within p.0 p.1 ≡ true
 
-pub in_ranges_end : (rs : List Range) (vs : List ℤ) (i : ℕ) → length rs ≤ i → length vs ≤ i → in_ranges (drop i rs) (drop i vs) ≡ true
-in_ranges_end rs vs i h k = ap (λ qs. in_ranges qs (drop i vs)) (drop_all i rs h) ∙ ap (in_ranges []) (drop_all i vs k)
+abbrev pub Missed : Range × ℤ → Type 0
+Missed p = within p.0 p.1 ≡ false
+
+in_each : (rs : List Range) (vs : List ℤ) → length rs ≡ length vs → AllWithin Held (zip rs vs) 0 (length (zip rs vs)) → in_ranges rs vs ≡ true
+in_each [] [] n a = refl
+in_each [] (v ∷ vs) n a = absurd (omega (arith, n))
+in_each (r ∷ rs) [] n a = absurd (omega (arith, n))
+in_each (r ∷ rs) (v ∷ vs) n a = and_from (within r v) (in_ranges rs vs) (a 0 (r, v) (omega arith) (omega arith)) (in_each rs vs (omega (arith, n)) (λ k d l h. a (suc k) d (omega arith) (omega arith)))
+
+missed_one : (rs : List Range) (vs : List ℤ) (k : ℕ) → k < length (zip rs vs) → HoldsAt Missed (zip rs vs) k → in_ranges rs vs ≡ false
+missed_one [] vs k l h = absurd (omega arith)
+missed_one (r ∷ rs) [] k l h = absurd (omega arith)
+missed_one (r ∷ rs) (v ∷ vs) zero l h = ap (λ b. b && in_ranges rs vs) (h (r, v))
+missed_one (r ∷ rs) (v ∷ vs) (suc k) l h =
+    let later : in_ranges rs vs ≡ false = missed_one rs vs k (omega arith) h in
+    ⊎_elim (λ e. ap₂ ◌&&◌ e later) (λ e. ap (λ b. b && in_ranges rs vs) e) (cases_Bool (within r v))
+
+pub tested : (rs : List Range) (vs : List ℤ) (b : Bool) → length rs ≡ length vs → MatchBool b (AllWithin Held (zip rs vs) 0 (length (zip rs vs))) ((k : ℕ) × (k < length (zip rs vs)) × HoldsAt Missed (zip rs vs) k) → b ≡ in_ranges rs vs
+tested rs vs true n m = sym (in_each rs vs n m)
+tested rs vs false n m = sym (missed_one rs vs m.0 m.1 m.2)
 
 -- writing: what is to come next
-module _ (p : List ℕ) (vs : List ℤ) (before out : List ℕ) (at i next : ℕ) (o : Over (spelt p vs) before out at (spelt (drop i p) (drop next vs))) (h : i < length p) where
-  pub number_comes : get_or p i 0 ≡ 35 → Over (spelt p vs) before out at (first_digits (drop next vs) ++ spelt (drop (i + 1) p) (drop (next + 1) vs))
-  number_comes e = subst (λ z. Over (spelt p vs) before out at z) (next_number p vs i next h e) o
+module _ (p : List ℕ) (vs : List ℤ) (before out : List ℕ) (at i : ℕ) (left : List ℤ) (o : Over (spelt p vs) before out at (spelt (drop i p) left)) (h : i < length p) where
+  pub number_comes : get_or p i 0 ≡ 35 → (v : Option ℤ) (after : List ℤ) → (digits_of v ≡ first_digits left) × (drop 1 left ≡ after) → Over (spelt p vs) before out at (digits_of v ++ spelt (drop (i + 1) p) after)
+  number_comes e v after t = subst (λ z. Over (spelt p vs) before out at z) (next_number p left i h e ∙ ap₂ (λ d ws. d ++ spelt (drop (i + 1) p) ws) (sym t.0) t.1) o
 
-  pub byte_comes : (get_or p i 0 ≡ 35 → ⊥) → Over (spelt p vs) before out at (get_or p i 0 ∷ spelt (drop (i + 1) p) (drop next vs))
-  byte_comes e = subst (λ z. Over (spelt p vs) before out at z) (next_byte p vs i next h e) o
+  pub byte_comes : (get_or p i 0 ≡ 35 → ⊥) → Over (spelt p vs) before out at (get_or p i 0 ∷ spelt (drop (i + 1) p) left)
+  byte_comes e = subst (λ z. Over (spelt p vs) before out at z) (next_byte p left i h e) o
 
-  pub number_room : length (spelt p vs) ≤ length before → get_or p i 0 ≡ 35 → at + length (first_digits (drop next vs)) ≤ length out
-  number_room room e = over_room (spelt p vs) before out at (first_digits (drop next vs)) (spelt (drop (i + 1) p) (drop (next + 1) vs)) room (number_comes e)
+  pub number_room : length (spelt p vs) ≤ length before → get_or p i 0 ≡ 35 → (v : Option ℤ) (after : List ℤ) → (digits_of v ≡ first_digits left) × (drop 1 left ≡ after) → at + length (digits_of v) ≤ length out
+  number_room room e v after t = over_room (spelt p vs) before out at (digits_of v) (spelt (drop (i + 1) p) after) room (number_comes e v after t)
 
   pub byte_room : length (spelt p vs) ≤ length before → (get_or p i 0 ≡ 35 → ⊥) → at < length out
-  byte_room room e = omega (arith, over_room (spelt p vs) before out at (get_or p i 0 ∷ []) (spelt (drop (i + 1) p) (drop next vs)) room (byte_comes e))
+  byte_room room e = omega (arith, over_room (spelt p vs) before out at (get_or p i 0 ∷ []) (spelt (drop (i + 1) p) left) room (byte_comes e))
 
 -- How long a line can be: so many bytes for each number, and one for each other byte.
 abbrev pub width : List ℕ → List ℕ → ℕ

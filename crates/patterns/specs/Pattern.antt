@@ -5,6 +5,11 @@ use Rattle.shape.specs.Decimal.{digits, InRange}
 use Rattle.shape.specs.Limits.{bound}
 use Rattle.patterns.specs.declared.Range.{Range}
 
+-- the digits of a value, nothing where there is none
+abbrev pub digits_of : Option ℤ → List ℕ
+digits_of None = []
+digits_of (Some v) = digits v
+
 -- the digits of the first value, nothing where there is none
 abbrev pub first_digits : List ℤ → List ℕ
 first_digits [] = []

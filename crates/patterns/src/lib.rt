@@ -4,9 +4,10 @@
 
 #![tactic(auto)]
 
-ghost use Rattle.std.specs.Prelude.{◌≡◌, ℕ, ◌<◌, ◌≤◌, true, ◌++◌, length, drop, None, MatchBool};
+ghost use Rattle.std.specs.Prelude.{◌≡◌, ℕ, ◌<◌, ◌≤◌, true, ◌++◌, length, drop, [], ◌∷◌, IfSome};
+ghost use Rattle.shape.specs.Decimal.{InRange};
 ghost use Rattle.kinds.specs.Kind.{Writes};
-ghost use Rattle.patterns.specs.Pattern.{AllInRange, FitsRoom, Makes, ReadsPattern, first_digits, fitting, in_ranges, spelt, within};
+ghost use Rattle.patterns.specs.Pattern.{AllInRange, FitsRoom, ReadsPattern, digits_of, fitting, in_ranges, spelt, within};
 ghost use Rattle.patterns.specs.Steps.{NextValue};
 
 use refusal::Refusal;
@@ -28,73 +29,84 @@ impl Range {
     }
 }
 
-// Writes the line of a pattern and its values to the front of `out`, and
-// answers its length. Values out of their ranges are refused, then a buffer
-// that is shorter than the line.
-pub fn write(
-    pattern: &[u8],
-    ranges: &[Range],
-    values: &[i32],
-    out: &mut [u8],
-) -> Result<usize, Refusal>
-    ensures { Writes (in_ranges ranges.now values.now) (spelt pattern.now values.now) out.old out.new result }
-{
-    if !all_within(ranges, values) {
-        return Err(Refusal::UnlawfulItem { index: 0 });
-    }
-    match measured(pattern, values, out.len()) {
-        Some(len) => {
-            put_line(pattern, values, out);
-            Ok(len)
+// A line with a `#` for each number, and the range of each number.
+#[derive(Clone, Copy)]
+pub struct Pattern<'a> {
+    pub text: &'a [u8],
+    pub ranges: &'a [Range],
+}
+
+impl<'a> Pattern<'a> {
+    // Writes the line of these values to the front of `out`, and answers its
+    // length. Values out of their ranges are refused, then a buffer that is
+    // shorter than the line.
+    pub fn write(&self, values: &[i32], out: &mut [u8]) -> Result<usize, Refusal>
+        ensures { Writes (in_ranges self.now.ranges.now values.now) (spelt self.now.text.now values.now) out.old out.new result }
+    {
+        if !all_within(self.ranges, values) {
+            return Err(Refusal::UnlawfulItem { index: 0 });
         }
-        None => Err(Refusal::ShortOutput),
+        let len = measured(self.text, values, out.len()).ok_or(Refusal::ShortOutput)?;
+        put_line(self.text, values, out);
+        Ok(len)
+    }
+
+    // The `N` values that make a line, if there are as many ranges; nothing
+    // exactly where no values in the ranges do, if the text fits them.
+    pub fn read<const N: usize>(&self, line: &[u8]) -> Option<[i32; N]>
+        ensures { length self.now.ranges.now ≡ N → ReadsPattern self.now.text.now self.now.ranges.now line.now result }
+    {
+        if self.ranges.len() != N {
+            return None;
+        }
+        let mut values = [0; N];
+        let mut places = self.ranges.iter().enumerate();
+        let mut rest = line;
+        for b in self.text {
+            if *b == b'#' {
+                let (place, range) = places.next()?;
+                let found = next_value(range, rest)?;
+                values[place] = found.value;
+                rest = &rest[found.len..];
+            } else {
+                rest = rest.strip_prefix(&[*b])?;
+            }
+        }
+        (rest.is_empty() && places.next().is_none()).then_some(values)
     }
 }
 
-// The `N` values that make a line by a pattern with as many ranges; nothing
-// exactly where no values in the ranges do, if the pattern fits them.
-pub fn read<const N: usize>(pattern: &[u8], ranges: &[Range], line: &[u8]) -> Option<[i32; N]>
-    ensures { length ranges.now ≡ N → ReadsPattern pattern.now ranges.now line.now result }
+// The number at the front of `line`, if it is in the range.
+fn next_value(range: &Range, line: &[u8]) -> Option<Leading<i32>>
+    ensures { NextValue (range.now ∷ []) line.now result }
 {
-    if ranges.len() != N {
-        return None;
-    }
-    let mut values = [0; N];
-    if find_values(pattern, ranges, line, &mut values) {
-        Some(values)
-    } else {
-        None
-    }
+    leading_number(line).filter(|found| range.holds(found.value))
 }
 
 // Whether there are as many values as ranges, each in its own.
 fn all_within(ranges: &[Range], values: &[i32]) -> bool
     ensures { result ≡ in_ranges ranges.now values.now }
 {
-    if ranges.len() != values.len() {
-        return false;
-    }
-    for i in 0..ranges.len() {
-        if !ranges[i].holds(values[i]) {
-            return false;
-        }
-    }
-    true
+    ranges.len() == values.len()
+        && ranges
+            .iter()
+            .zip(values)
+            .all(|(range, value)| range.holds(*value))
 }
 
-// The length of the line of a pattern and its values, if it fits the room.
-fn measured(pattern: &[u8], values: &[i32], room: usize) -> Option<usize>
+// The length of the line of a pattern's text and values, if it fits the room.
+fn measured(text: &[u8], values: &[i32], room: usize) -> Option<usize>
     requires { AllInRange values.now }
-    ensures { FitsRoom (spelt pattern.now values.now) room result }
+    ensures { FitsRoom (spelt text.now values.now) room result }
 {
     let mut len = 0;
-    let mut next = 0;
-    for b in pattern {
-        let mut size = 1;
-        if *b == b'#' {
-            size = digits_len(values, next);
-            next += 1;
-        }
+    let mut values = values.iter();
+    for b in text {
+        let size = if *b == b'#' {
+            digits_len(values.next().copied())
+        } else {
+            1
+        };
         if size > room - len {
             return None;
         }
@@ -103,29 +115,25 @@ fn measured(pattern: &[u8], values: &[i32], room: usize) -> Option<usize>
     Some(len)
 }
 
-// How many bytes the value at a place is written with; 0 past the last.
-fn digits_len(values: &[i32], next: usize) -> usize
-    requires { AllInRange values.now }
-    ensures { result ≡ length (first_digits (drop next values.now)) }
+// How many bytes a value is written with; 0 where there is none.
+fn digits_len(value: Option<i32>) -> usize
+    requires { IfSome value InRange }
+    ensures { result ≡ length (digits_of value) }
 {
-    if next < values.len() {
-        number_len(values[next]).unwrap_or(0)
-    } else {
-        0
-    }
+    value.and_then(|value| number_len(value)).unwrap_or(0)
 }
 
-// Writes the line of a pattern and its values, which fits.
-fn put_line(pattern: &[u8], values: &[i32], out: &mut [u8])
-    requires { (AllInRange values.now) × (length (spelt pattern.now values.now) ≤ length out.old) }
-    ensures { out.new ≡ spelt pattern.now values.now ++ drop (length (spelt pattern.now values.now)) out.old }
+// Writes the line of a pattern's text and values, which fits.
+fn put_line(text: &[u8], values: &[i32], out: &mut [u8])
+    requires { (AllInRange values.now) × (length (spelt text.now values.now) ≤ length out.old) }
+    ensures { out.new ≡ spelt text.now values.now ++ drop (length (spelt text.now values.now)) out.old }
 {
+    // By a place: the rest of a buffer could only be kept by taking it out of its variable.
     let mut at = 0;
-    let mut next = 0;
-    for b in pattern {
+    let mut values = values.iter();
+    for b in text {
         if *b == b'#' {
-            at += put_digits(values, next, &mut out[at..]);
-            next += 1;
+            at += put_digits(values.next().copied(), &mut out[at..]);
         } else {
             out[at] = *b;
             at += 1;
@@ -133,57 +141,14 @@ fn put_line(pattern: &[u8], values: &[i32], out: &mut [u8])
     }
 }
 
-// Writes the value at a place and answers its length; nothing past the last.
-fn put_digits(values: &[i32], next: usize, out: &mut [u8]) -> usize
-    requires { (AllInRange values.now) × (length (first_digits (drop next values.now)) ≤ length out.old) }
-    ensures len { result ≡ length (first_digits (drop next values.now)) }
-    ensures after { out.new ≡ first_digits (drop next values.now) ++ drop result out.old }
+// Writes a value and answers its length; nothing where there is none.
+fn put_digits(value: Option<i32>, out: &mut [u8]) -> usize
+    requires { IfSome value InRange × (length (digits_of value) ≤ length out.old) }
+    ensures len { result ≡ length (digits_of value) }
+    ensures after { out.new ≡ digits_of value ++ drop result out.old }
 {
-    if next < values.len() {
-        write_number(values[next], out).unwrap_or(0)
-    } else {
-        0
-    }
-}
-
-// Puts the values that make a line into `values`; says whether there are any.
-fn find_values<const N: usize>(
-    pattern: &[u8],
-    ranges: &[Range],
-    line: &[u8],
-    values: &mut [i32; N],
-) -> bool
-    requires { (length ranges.now ≡ N) × (length values.old ≡ N) }
-    ensures { MatchBool result (Makes pattern.now ranges.now line.now values.new) (ReadsPattern pattern.now ranges.now line.now None) }
-{
-    let mut at = 0;
-    let mut next = 0;
-    for b in pattern {
-        if *b == b'#' {
-            let Some(found) = next_value(ranges, next, &line[at..]) else {
-                return false;
-            };
-            values[next] = found.value;
-            next += 1;
-            at += found.len;
-        } else {
-            if at >= line.len() || line[at] != *b {
-                return false;
-            }
-            at += 1;
-        }
-    }
-    at == line.len() && next == ranges.len()
-}
-
-// The number at the front of `line`, if it is in the range at a place.
-fn next_value(ranges: &[Range], next: usize, line: &[u8]) -> Option<Leading>
-    ensures { NextValue (drop next ranges.now) line.now result }
-{
-    let found = leading_number(line)?;
-    if next < ranges.len() && ranges[next].holds(found.value) {
-        Some(found)
-    } else {
-        None
-    }
+    let Some(value) = value else {
+        return 0;
+    };
+    write_number(value, out).unwrap_or(0)
 }

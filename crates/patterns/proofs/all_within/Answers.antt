@@ -1,31 +1,14 @@
-use Rattle.std.proofs.Common.{◌≡◌, ◌+◌, ◌<◌, true, false, ◌&&◌, length, get_or, drop, pos, sym, ap, ◌∙◌, arith, w32, SFits, rules}
-use Rattle.std.proofs.lemmas.Int.{to_z-of_z}
-use Rattle.patterns.specs.Pattern.{within, in_ranges}
-use Rattle.patterns.proofs.Spell.{other_count, in_ranges_next, in_ranges_end}
+use Rattle.std.proofs.Common.{sym, ◌∙◌, rules}
+use borrow.Author.Tests.{tests}
+use Rattle.std.proofs.lemmas.Bool.{ne_eqb}
+use Rattle.std.proofs.lemmas.Iterator.{cases_from_all, YieldsList-from_slice, YieldsList-from_zip}
+use Rattle.patterns.proofs.Spell.{Held, Missed, tested, other_count}
 use Rattle.patterns.proofs.all_within.Goals as goal
 
 pub returns-then-ranges-values : goal.returns-then-ranges-values
-returns-then-ranges-values c = sym (other_count c.args.ranges.now c.args.values.now c.if-ranges-values.true)
+returns-then-ranges-values c =
+    let zipped = YieldsList-from_zip {s = c.zip.result} (YieldsList-from_slice c.args.ranges.now cc) (YieldsList-from_slice c.args.values.now cc) in
+    tested c.args.ranges.now c.args.values.now c.all.result c.if-ranges-values.true (cases_from_all c.all.new.self _ _ Held Missed c.all.ensures.ran zipped (λ x q k. search (rules, tests)) (λ x q k. search (rules, tests)))
 
-pub returns-then-not-holds : goal.returns-then-not-holds
-returns-then-not-holds c =
-    let rs = c.args.ranges.now in
-    let vs = c.args.values.now in
-    let i = c.loop-i.i in
-    let fits : SFits w32 (get_or vs i (pos 0)) = search rules in
-    let k : i < length vs = omega arith in
-    let w : false ≡ within (get_or rs i (record { low = pos 0; high = pos 0 })) (get_or vs i (pos 0)) = c.if-not-holds.ensures ∙ ap (within _) (to_z-of_z w32 (get_or vs i (pos 0)) fits) in
-    ap (λ b. b && in_ranges (drop (i + 1) rs) (drop (i + 1) vs)) w ∙ sym (in_ranges_next rs vs i _ _ c.loop-i-test.true k) ∙ c.loop-i.invariant
-
-pub loop-i-preserved : goal.loop-i-preserved
-loop-i-preserved c =
-    let rs = c.args.ranges.now in
-    let vs = c.args.values.now in
-    let i = c.loop-i.i in
-    let fits : SFits w32 (get_or vs i (pos 0)) = search rules in
-    let k : i < length vs = omega arith in
-    let w : true ≡ within (get_or rs i (record { low = pos 0; high = pos 0 })) (get_or vs i (pos 0)) = c.if-not-holds.ensures ∙ ap (within _) (to_z-of_z w32 (get_or vs i (pos 0)) fits) in
-    ap (λ b. b && in_ranges (drop (i + 1) rs) (drop (i + 1) vs)) w ∙ sym (in_ranges_next rs vs i _ _ c.loop-i-test.true k) ∙ c.loop-i.invariant
-
-pub returns : goal.returns
-returns c = sym (in_ranges_end c.args.ranges.now c.args.values.now c.loop-i.i c.loop-i-test.false (omega arith)) ∙ c.loop-i.invariant
+pub returns-else-ranges-values : goal.returns-else-ranges-values
+returns-else-ranges-values c = ne_eqb _ _ c.if-ranges-values.false ∙ sym (other_count c.args.ranges.now c.args.values.now c.if-ranges-values.false)

@@ -1,9 +1,13 @@
-use Rattle.std.proofs.Common.{◌-◌, length}
-use Rattle.kinds.proofs.Along.{Along, Filled}
+use Rattle.std.proofs.Common.{◌≡◌, ◌≤◌, length, drop}
+use Rattle.std.specs.Iterator.Adapters.{enumerate_source, enumerate_count}
+use Rattle.kinds.specs.Text.{lines}
+use Rattle.kinds.proofs.Along.{Filled}
 use Rattle.kinds.proofs.text.fill_places.Given as goal
 
-abbrev pub invariant-loop-at : goal.invariant-loop-at
-invariant-loop-at g l = Along g.K.Kind.reading l.text l.at l.count × Filled g.K.Kind.reading l.text l.initial.items l.items l.count
-
-abbrev pub decreases-loop-at : goal.decreases-loop-at
-decreases-loop-at g l = length l.text - l.at
+abbrev pub invariant-loop-place : goal.invariant-loop-place
+invariant-loop-place g l =
+    (goal.iterator-loop-place g).can_next l.place-iterator
+    × (goal.iterator-loop-place g).is_finite l.place-iterator
+    × (lines (enumerate_source l.place-iterator).rest.now ≡ drop (enumerate_count l.place-iterator) (lines l.text))
+    × (enumerate_count l.place-iterator ≤ length (lines l.text))
+    × Filled g.K.Kind.reading l.text l.initial.items l.items (enumerate_count l.place-iterator)

@@ -1,4 +1,6 @@
-use Rattle.std.proofs.Common.{sym, refl}
+use Rattle.std.proofs.Common.{◌≡◌, Bool, true, false, codes, sym, refl, ◌∙◌}
+use Rattle.std.specs.Bool.{Decides, then_some}
+use Rattle.items.specs.Job.{job_reading}
 use Rattle.std.proofs.lemmas.Slice.Eq.{slice_eq-Decides}
 use Rattle.std.proofs.lemmas.Bool.Decides.{not_from_Decides, Decides-eqb}
 use Rattle.items.specs.declared.job.JobItem.TheVariants.{Move, Cut, Mark, End}
@@ -20,10 +22,10 @@ returns-in-Some-read_point-3 c = job_answer c.args.text.now (Mark c.in-Some-read
 pub returns-in-Some-read_arc : goal.returns-in-Some-read_arc
 returns-in-Some-read_arc c = job_answer c.args.text.now c.in-Some-read_arc.item c.in-Some-read_arc.ensures
 
-pub returns-then-eq : goal.returns-then-eq
-returns-then-eq c = job_answer c.args.text.now End (refl, sym ((slice_eq-Decides Decides-eqb _ _ _ c.eq.ensures).0 c.if-eq.true))
-
 pub returns : goal.returns
-returns c =
-    no_job c.args.text.now c.in_default.ensures (c.in_default-read_point.ensures refl) (c.in_default-read_point-2.ensures refl) (c.in_default-read_point-3.ensures refl) c.in_default-read_arc.ensures
-    (not_from_Decides _ (slice_eq-Decides Decides-eqb _ _ _ c.eq.ensures) c.if-eq.false)
+returns c = c.then_some.ensures ∙ ended c.eq.result (slice_eq-Decides Decides-eqb _ _ _ c.eq.ensures)
+  where
+    ended : (b : Bool) → Decides b (c.args.text.now ≡ codes "(end)\n") → then_some b End ≡ job_reading c.args.text.now
+    ended true d = job_answer c.args.text.now End (refl, sym (d.0 refl))
+    ended false d =
+        no_job c.args.text.now c.in_default.ensures (c.in_default-read_point.ensures refl) (c.in_default-read_point-2.ensures refl) (c.in_default-read_point-3.ensures refl) c.in_default-read_arc.ensures (not_from_Decides false d refl)

@@ -13,13 +13,25 @@ returns-in-Panel c =
     (subst (λ vs. Writes (in_ranges (panel_numbers ∷ cloth_numbers ∷ []) vs) (spelt (codes "(panel # (cloth #))\n") vs) c.args.out.now c.write.new.out c.write.result) (ap₂ (λ a b. a ∷ b ∷ []) n k) c.write.ensures)
 
 pub returns-in-Move : goal.returns-in-Move
-returns-in-Move c = subst (λ y. Writes (job_lawful y) (job_line y) c.args.out.now c.write_point.new.out c.write_point.result) (sym c.in-Move.is) c.write_point.ensures
+returns-in-Move c =
+    let x : to_z w32 (of_z w32 c.in-Move.to.x) ≡ c.in-Move.to.x = search rules in
+    let y : to_z w32 (of_z w32 c.in-Move.to.y) ≡ c.in-Move.to.y = search rules in
+    subst (λ y. Writes (job_lawful y) (job_line y) c.args.out.now c.write-in-Move.new.out c.write-in-Move.result) (sym c.in-Move.is)
+    (subst (λ vs. Writes (in_ranges (coordinates ∷ coordinates ∷ []) vs) (spelt (codes "(move (x #) (y #))\n") vs) c.args.out.now c.write-in-Move.new.out c.write-in-Move.result) (ap₂ (λ a b. a ∷ b ∷ []) x y) c.write-in-Move.ensures)
 
 pub returns-in-Cut : goal.returns-in-Cut
-returns-in-Cut c = subst (λ y. Writes (job_lawful y) (job_line y) c.args.out.now c.write_point-in-Cut.new.out c.write_point-in-Cut.result) (sym c.in-Cut.is) c.write_point-in-Cut.ensures
+returns-in-Cut c =
+    let x : to_z w32 (of_z w32 c.in-Cut.to.x) ≡ c.in-Cut.to.x = search rules in
+    let y : to_z w32 (of_z w32 c.in-Cut.to.y) ≡ c.in-Cut.to.y = search rules in
+    subst (λ y. Writes (job_lawful y) (job_line y) c.args.out.now c.write-in-Cut.new.out c.write-in-Cut.result) (sym c.in-Cut.is)
+    (subst (λ vs. Writes (in_ranges (coordinates ∷ coordinates ∷ []) vs) (spelt (codes "(cut (x #) (y #))\n") vs) c.args.out.now c.write-in-Cut.new.out c.write-in-Cut.result) (ap₂ (λ a b. a ∷ b ∷ []) x y) c.write-in-Cut.ensures)
 
 pub returns-in-Mark : goal.returns-in-Mark
-returns-in-Mark c = subst (λ y. Writes (job_lawful y) (job_line y) c.args.out.now c.write_point-in-Mark.new.out c.write_point-in-Mark.result) (sym c.in-Mark.is) c.write_point-in-Mark.ensures
+returns-in-Mark c =
+    let x : to_z w32 (of_z w32 c.in-Mark.to.x) ≡ c.in-Mark.to.x = search rules in
+    let y : to_z w32 (of_z w32 c.in-Mark.to.y) ≡ c.in-Mark.to.y = search rules in
+    subst (λ y. Writes (job_lawful y) (job_line y) c.args.out.now c.write-in-Mark.new.out c.write-in-Mark.result) (sym c.in-Mark.is)
+    (subst (λ vs. Writes (in_ranges (coordinates ∷ coordinates ∷ []) vs) (spelt (codes "(mark (x #) (y #))\n") vs) c.args.out.now c.write-in-Mark.new.out c.write-in-Mark.result) (ap₂ (λ a b. a ∷ b ∷ []) x y) c.write-in-Mark.ensures)
 
 pub returns-in-Arc : goal.returns-in-Arc
 returns-in-Arc c =
