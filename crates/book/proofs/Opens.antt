@@ -1,11 +1,12 @@
 -- An opening: what the box asks of a slot is what the book asks, so that box
 -- and book go on together.
-use Rattle.std.proofs.Common.{◌≡◌, ℕ, ◌<◌, ◌≤◌, Bool, true, cond, ◌&&◌, eqb, ltb, ◌⊎◌, List, [], ◌∷◌, ◌++◌, map, length, get_or, drop, is_some, Some, None, Ok, Err, Option, sym, refl, ap, ◌∙◌, subst, inl, inr, ⊎_elim, arith}
+use Rattle.std.proofs.Common.{◌≡◌, ℕ, ◌<◌, ◌≤◌, Bool, true, cond, ◌&&◌, eqb, ltb, ◌⊎◌, List, [], ◌∷◌, ◌++◌, map, length, drop, is_some, Some, None, Ok, Err, Option, sym, refl, ap, ◌∙◌, subst, inl, inr, ⊎_elim, arith}
 use Rattle.std.specs.List.{flat_map, AllByRecursion}
 use Rattle.std.proofs.lemmas.List.{length-map}
+use Rattle.std.proofs.lemmas.List.Folds.{flat_map-map}
+use Rattle.std.proofs.lemmas.Option.{none-some}
 use Rattle.std.proofs.lemmas.Bool.{false≢true, both_ways, and_parts, and_from, eqb-true, eq-eqb, ltb-true, lt-ltb, cond_both}
-use Rattle.book.specs.declared.Slot.{Slot}
-use Rattle.book.specs.Keys.{empty}
+use Rattle.book.specs.Keys.{Slot, key_of, last_of, slot_at, with_last}
 use Rattle.book.specs.Book.{Call, Sealing, kind_of, setting, clearing, asking, opening, hits, good_key, key_in, text_of, slot_count, most_bytes, serial_end, Granted, Opened}
 use Rattle.book.specs.Stands.{Agrees, Stands, Noted}
 use Rattle.book.specs.Law.{Seals, OpenLaw, Passes}
@@ -21,7 +22,7 @@ hit_within t s e =
 
 -- only a slot of the box has a key
 pub key_within : (h : List Call) (s : ℕ) (k : List ℕ) → key_in h s ≡ Some k → s < slot_count
-key_within [] s k = λ e. absurd (let z : ◌≡◌ {A = ℕ} 0 1 = cc in omega arith)
+key_within [] s k = λ e. absurd (none-some k e)
 key_within (setting t j ∷ h) s k =
     cond_both (good_key j && hits t s) (Some j) (key_in h s) (λ v. v ≡ Some k → s < slot_count)
     (λ b _. hit_within t s (and_parts (good_key j) (hits t s) b).1)
@@ -30,6 +31,15 @@ key_within (clearing t ∷ h) s k =
     cond_both (hits t s) None (key_in h s) (λ v. v ≡ Some k → s < slot_count) (λ b _. hit_within t s b) (λ _. key_within h s k)
 key_within (asking t ∷ h) s k = key_within h s k
 key_within (opening l q w n ∷ h) s k = key_within h s k
+
+-- a slot with another last serial has its key, and that serial if it has one
+pub key_with_last : (slot : Slot) (n : ℕ) → key_of (with_last slot n) ≡ key_of slot
+key_with_last None n = refl
+key_with_last (Some held) n = refl
+
+pub last_with_last : (slot : Slot) (n : ℕ) (key : List ℕ) → key_of slot ≡ Some key → last_of (with_last slot n) ≡ n
+last_with_last None n key e = absurd (none-some key e)
+last_with_last (Some held) n key e = refl
 
 still : (slot : Slot) (k : Option (List ℕ)) (opened more : ℕ → Type 0) → ((m : ℕ) → more m → ⊥) → Agrees slot k opened → Agrees slot k (λ m. opened m ⊎ more m)
 still slot k opened more never a =
@@ -63,8 +73,7 @@ module _ {X : Type 0} (lawful : X → Bool) (line : X → List ℕ) (number : �
       (y.0 ∷ more.0, (r.0, more.1), ap (λ k. k ∷ map line more.0) r.1 ∙ ap (λ ks. l ∷ ks) more.2)
 
   lines_joined : (xs : List X) → text_of (map line xs) ≡ flat_map line xs
-  lines_joined [] = refl
-  lines_joined (x ∷ xs) = ap (λ t. line x ++ t) (lines_joined xs)
+  lines_joined xs = flat_map-map (λ l. l) line xs
 
   -- what `apart` asks of a text, and that sheets have it
   module _ (Text : List ℕ → Type 0)
@@ -80,7 +89,7 @@ module _ {X : Type 0} (lawful : X → Bool) (line : X → List ℕ) (number : �
         subst Text same (text_good y.0 y.1 (subst (λ (t : List ℕ). length t ≤ most_bytes) (sym same) short))
 
     abbrev at : ℕ → Slot
-    at s = get_or slots s empty
+    at s = slot_at slots s
 
     abbrev Pass : (s m : ℕ) → List ℕ → List X → Type 0
     Pass s m key xs = Passes seal lawful line number slots l work (length before) s m key xs
@@ -93,7 +102,7 @@ module _ {X : Type 0} (lawful : X → Bool) (line : X → List ℕ) (number : �
 
     to_book : (h : List Call) → Stands seal slots h → (s m : ℕ) (key : List ℕ) (xs : List X) → Pass s m key xs → Grant h s m
     to_book h st s m key xs p =
-        let later : (at s).last < m = p.later in
+        let later : last_of (at s) < m = p.later in
         let n = length-map xs line in
         let same = lines_joined xs in
         record {
@@ -162,7 +171,7 @@ module _ {X : Type 0} (lawful : X → Bool) (line : X → List ℕ) (number : �
 
     module _ (t n : ℕ) (key : List ℕ) (xs : List X) (p : Pass t n key xs) where
       abbrev next : Slot
-      next = record { key = (at t).key; last = n }
+      next = with_last (at t) n
 
       within : (h : List Call) → Stands seal slots h → t < slot_count
       within h st = key_within h t key (sym (st t).key_is ∙ p.key_is)
@@ -179,18 +188,19 @@ module _ {X : Type 0} (lawful : X → Bool) (line : X → List ℕ) (number : �
 
       taken : (h : List Call) → Stands seal slots h → Agrees next (key_in h t) (Opened seal (this ∷ h) t)
       taken h st =
-          let later : (at t).last < n = p.later in
+          let later : last_of (at t) < n = p.later in
+          let last : last_of next ≡ n = last_with_last (at t) n key p.key_is in
           let ht = within h st in
           record {
-            key_is = (st t).key_is;
+            key_is = key_with_last (at t) n ∙ (st t).key_is;
             above =
                 λ m q.
                 ⊎_elim (λ e. omega (arith, (st t).above m e))
                 (λ o. omega (arith, (grant_place h t m ht ht o).1)) q;
-            below = λ m q. q.1 n (inr (to_book h st t n key xs p));
+            below = λ m q. omega (arith, q.1 n (inr (to_book h st t n key xs p)));
           }
 
-      pub passed_noted : (after : List Slot) → ((s : ℕ) → get_or after s empty ≡ cond (hits t s) next (at s)) → Noted seal slots after (this ∷ [])
+      pub passed_noted : (after : List Slot) → ((s : ℕ) → slot_at after s ≡ cond (hits t s) next (at s)) → Noted seal slots after (this ∷ [])
       passed_noted after e h st s =
           let O = Opened seal (this ∷ h) in
           let ht = within h st in

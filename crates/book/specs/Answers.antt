@@ -3,8 +3,7 @@ use Rattle.std.specs.Prelude.{◌≡◌, ℕ, cond, List, Some, None, Ok, Err, O
 use Rattle.std.specs.Option.{option_map}
 use Rattle.refusal.specs.declared.Refusal.{Refusal}
 use Rattle.refusal.specs.declared.Refusal.TheVariants.{NoSlot, KeyLength}
-use Rattle.book.specs.declared.Slot.{Slot}
-use Rattle.book.specs.Keys.{key_of}
+use Rattle.book.specs.Keys.{Slot, key_of, last_of}
 use Rattle.book.specs.Book.{slot_count, good_key}
 
 -- a slot above 7
@@ -21,4 +20,4 @@ answer (Some why) = Err why
 
 -- Asking a slot for its last serial: nothing if it is empty.
 abbrev pub Asked : (slot : ℕ) → Slot → Result (Option ℕ) Refusal → Type 0
-Asked slot s r = r ≡ cond (nat_lt slot slot_count) (Ok (option_map (λ k. s.last) (key_of s))) (Err NoSlot)
+Asked slot s r = r ≡ cond (nat_lt slot slot_count) (Ok (option_map (λ k. last_of s) (key_of s))) (Err NoSlot)

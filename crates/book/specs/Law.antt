@@ -1,8 +1,7 @@
 -- The law of an opening, by the book alone.
-use Rattle.std.specs.Prelude.{◌≡◌, ℕ, ◌<◌, ◌≤◌, Bool, true, List, ◌++◌, length, slice_index_or, drop, is_ok, Some, Ok, Result}
+use Rattle.std.specs.Prelude.{◌≡◌, ℕ, ◌<◌, ◌≤◌, Bool, true, List, ◌++◌, length, drop, is_ok, Some, Ok, Result}
 use Rattle.std.specs.List.{flat_map, AllByRecursion}
-use Rattle.book.specs.declared.Slot.{Slot}
-use Rattle.book.specs.Keys.{key_of, empty}
+use Rattle.book.specs.Keys.{Slot, key_of, last_of, slot_at}
 use Rattle.book.specs.Book.{Call, Sealing, key_in, Fresh, most_items, most_bytes, serial_end}
 
 -- A way of sealing, and a kind: which items are lawful, which line each has,
@@ -48,8 +47,8 @@ module _ {X : Type 0} (seal : Sealing) (lawful : X → Bool) (line : X → List 
 
   -- What the box itself asks of a slot as it has it.
   pub record Passes (slots : List Slot) (l : List ℕ) (work room s m : ℕ) (key : List ℕ) (items : List X) : Type 0 where
-    pub key_is : key_of (slice_index_or slots s empty) ≡ Some key
-    pub later : (slice_index_or slots s empty).last < m
+    pub key_is : key_of (slot_at slots s) ≡ Some key
+    pub later : last_of (slot_at slots s) < m
     pub seals : Seals s m key l items
     pub space : length (flat_map line items) ≤ work
     pub place : length items ≤ room

@@ -2,7 +2,8 @@
 
 ghost use Rattle.std.specs.Prelude.{◌<◌, ◌≤◌};
 
-// A key: the first `len` of the bytes, 1 to 32 of them.
+// A key: the first `len` of the bytes, 1 to 32 of them. A buffer and its
+// length, since a box has no heap and keys are copied.
 #[derive(Clone, Copy)]
 pub struct Key {
     pub(crate) bytes: [u8; 32],

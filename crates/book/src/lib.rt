@@ -4,9 +4,9 @@
 
 mod key;
 
-ghost use Rattle.std.specs.Prelude.{◌≡◌, ℕ, ◌<◌, ◌≤◌, true, false, ◌&&◌, [], ◌∷◌, length, slice_index_or, if◌then◌else◌, Some, None, MatchOption};
+ghost use Rattle.std.specs.Prelude.{◌≡◌, ℕ, ◌<◌, ◌≤◌, true, false, ◌&&◌, [], ◌∷◌, length, if◌then◌else◌, Some, None, MatchOption};
 ghost use Rattle.book.specs.Book.{Sealing, setting, clearing, asking, hits, good_key};
-ghost use Rattle.book.specs.Keys.{bytes_of, key_of, empty};
+ghost use Rattle.book.specs.Keys.{bytes_of, key_of, last_of, slot_at};
 ghost use Rattle.book.specs.Stands.{Stands, Noted};
 ghost use Rattle.book.specs.Answers.{set_checks, slot_check, answer, Asked};
 
@@ -27,8 +27,8 @@ impl Key {
         if len == 0 || len > LONGEST_KEY {
             return None;
         }
-        let mut all = [0; 32];
-        all[0..len].copy_from_slice(bytes);
+        let mut all = [0; LONGEST_KEY];
+        all[..len].copy_from_slice(bytes);
         Some(Key { bytes: all, len })
     }
 
@@ -38,103 +38,91 @@ impl Key {
         ensures some { 0 < length result.now }
         ensures few { length result.now ≤ 32 }
     {
-        &self.bytes[0..self.len]
+        &self.bytes[..self.len]
     }
 }
 
-// A slot: its key, if one is set, and the last serial that was opened.
+// What a slot holds: a key, and the last serial that was opened with it.
 #[derive(Clone, Copy)]
-pub struct Slot {
-    pub key: Option<Key>,
+pub struct Held {
+    pub key: Key,
     pub last: u32,
 }
 
-// The slots of a box.
+// The slots of a box. An empty slot holds nothing.
 #[derive(Clone, Copy)]
 pub struct Table {
-    pub slots: [Slot; 8],
+    pub slots: [Option<Held>; 8],
+}
+
+// A slot's number is below 8.
+fn check_slot(slot: u8) -> Result<(), Refusal>
+    ensures { result ≡ answer (slot_check slot) }
+{
+    if slot < SLOTS {
+        Ok(())
+    } else {
+        Err(Refusal::NoSlot)
+    }
 }
 
 impl Table {
     // Eight empty slots.
     pub fn new() -> Table
-        ensures empty { (s : ℕ) → slice_index_or result.slots s empty ≡ empty }
+        ensures empty { (s : ℕ) → slot_at result.slots s ≡ None }
         ensures stands { (seal : Sealing) → Stands seal result.slots [] }
     {
-        Table {
-            slots: [Slot { key: None, last: 0 }; 8],
-        }
+        Table { slots: [None; 8] }
     }
 
-    // The slot `i`: an empty one past the eighth.
-    pub fn at(&self, i: u8) -> Slot
-        ensures { result ≡ slice_index_or self.now.slots i empty }
+    // What the slot `i` holds: nothing past the eighth.
+    pub fn at(&self, i: u8) -> Option<Held>
+        ensures { result ≡ slot_at self.now.slots i }
     {
-        let all = &self.slots[..];
-        let i = i as usize;
-        if i < all.len() {
-            all[i]
-        } else {
-            Slot { key: None, last: 0 }
-        }
+        *self.slots.get(usize::from(i))?
     }
 
     // Puts a slot into its place, and changes no other; past the eighth
     // nothing changes.
-    pub fn put(&mut self, i: u8, slot: Slot)
-        ensures { (s : ℕ) → slice_index_or self.new.slots s empty ≡ (if hits i s then slot else slice_index_or self.old.slots s empty) }
+    pub fn put(&mut self, i: u8, slot: Option<Held>)
+        ensures { (s : ℕ) → slot_at self.new.slots s ≡ (if hits i s then slot else slot_at self.old.slots s) }
     {
+        // By index: of the other slots `get_mut` promises nothing.
         if i < SLOTS {
-            self.slots[i as usize] = slot;
+            self.slots[usize::from(i)] = slot;
         }
     }
 
     // Puts a key into a slot, which then has opened nothing.
     pub fn set_key(&mut self, slot: u8, key: &[u8]) -> Result<(), Refusal>
         ensures answer { result ≡ answer (set_checks slot key.now) }
-        ensures key { (s : ℕ) → key_of (slice_index_or self.new.slots s empty) ≡ (if good_key key.now && hits slot s then Some key.now else key_of (slice_index_or self.old.slots s empty)) }
-        ensures last { (s : ℕ) → (slice_index_or self.new.slots s empty).last ≡ (if good_key key.now && hits slot s then 0 else (slice_index_or self.old.slots s empty).last) }
+        ensures key { (s : ℕ) → key_of (slot_at self.new.slots s) ≡ (if good_key key.now && hits slot s then Some key.now else key_of (slot_at self.old.slots s)) }
+        ensures last { (s : ℕ) → last_of (slot_at self.new.slots s) ≡ (if good_key key.now && hits slot s then 0 else last_of (slot_at self.old.slots s)) }
         ensures noted { (seal : Sealing) → Noted seal self.old.slots self.new.slots (setting slot key.now ∷ []) }
     {
-        if slot >= SLOTS {
-            return Err(Refusal::NoSlot);
-        }
-        let Some(key) = Key::new(key) else {
-            return Err(Refusal::KeyLength);
-        };
-        let set = Slot {
-            key: Some(key),
-            last: 0,
-        };
-        self.put(slot, set);
+        check_slot(slot)?;
+        let key = Key::new(key).ok_or(Refusal::KeyLength)?;
+        self.put(slot, Some(Held { key, last: 0 }));
         Ok(())
     }
 
     // Empties a slot.
     pub fn clear(&mut self, slot: u8) -> Result<(), Refusal>
         ensures answer { result ≡ answer (slot_check slot) }
-        ensures after { (s : ℕ) → slice_index_or self.new.slots s empty ≡ (if hits slot s then empty else slice_index_or self.old.slots s empty) }
+        ensures after { (s : ℕ) → slot_at self.new.slots s ≡ (if hits slot s then None else slot_at self.old.slots s) }
         ensures noted { (seal : Sealing) → Noted seal self.old.slots self.new.slots (clearing slot ∷ []) }
     {
-        if slot >= SLOTS {
-            return Err(Refusal::NoSlot);
-        }
-        self.put(slot, Slot { key: None, last: 0 });
+        check_slot(slot)?;
+        self.put(slot, None);
         Ok(())
     }
 
     // The last serial opened from a slot, if it has a key.
     pub fn last_serial(&self, slot: u8) -> Result<Option<u32>, Refusal>
-        ensures answer { Asked slot (slice_index_or self.now.slots slot empty) result }
+        ensures answer { Asked slot (slot_at self.now.slots slot) result }
         ensures noted { (seal : Sealing) → Noted seal self.now.slots self.now.slots (asking slot ∷ []) }
     {
-        if slot >= SLOTS {
-            return Err(Refusal::NoSlot);
-        }
-        let slot = self.at(slot);
-        Ok(match slot.key {
-            Some(_) => Some(slot.last),
-            None => None,
-        })
+        check_slot(slot)?;
+        Ok(self.at(slot).map(|held| held.last))
     }
 }

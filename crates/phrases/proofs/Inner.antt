@@ -73,13 +73,12 @@ module _ (inner before after : List ℕ) where
       let few = ltb-true (length key) 33 (and_parts (ltb 0 (length key)) (ltb (length key) 33) good).1 in
       h.0 key bytes (omega arith) (take_rest inner 2 ∙ e)
 
-  pub key_bytes : (n : ℕ) → HexRead digits before after (Some n) → (bytes : List ℕ) × AllByRecursion Byte bytes × (drop 2 inner ≡ hex_of bytes) × (take (n - 0) after ≡ bytes)
+  pub key_bytes : (n : ℕ) → HexRead digits before after (Some n) → (bytes : List ℕ) × AllByRecursion Byte bytes × (drop 2 inner ≡ hex_of bytes) × (take n after ≡ bytes)
   key_bytes n h =
-      let cut : n - 0 ≡ n = omega arith in
-      (h.0, h.1, sym (take_rest inner 2) ∙ h.2, ap (λ k. take k after) cut ∙ ap (take n) h.5 ∙ take_at h.0 (drop n before) n (sym h.3))
+      (h.0, h.1, sym (take_rest inner 2) ∙ h.2, ap (take n) h.5 ∙ take_at h.0 (drop n before) n (sym h.3))
 
   -- and they make no key
-  pub no_key : (n : ℕ) → HexRead digits before after (Some n) → good_key (take (n - 0) after) ≡ false → (key : List ℕ) → drop 2 inner ≡ hex_of key → AllByRecursion Byte key → good_key key ≡ true → ⊥
+  pub no_key : (n : ℕ) → HexRead digits before after (Some n) → good_key (take n after) ≡ false → (key : List ℕ) → drop 2 inner ≡ hex_of key → AllByRecursion Byte key → good_key key ≡ true → ⊥
   no_key n h bad key e bytes good =
       let b = key_bytes n h in
       let same : b.0 ≡ key = same_hex b.0 key b.1 bytes (sym b.2 ∙ e) in

@@ -20,36 +20,24 @@ pub struct SlotKey {
 fn between<'a>(line: &'a [u8], front: &[u8], end: &[u8]) -> Option<&'a [u8]>
     ensures { Between line.now front.now end.now (option_map (λ x. x.now) result) }
 {
-    let Some(rest) = line.strip_prefix(front) else {
-        return None;
-    };
-    rest.strip_suffix(end)
+    line.strip_prefix(front)?.strip_suffix(end)
 }
 
 // Reads the line `(key S H)`, a slot and 1 to 32 bytes in hexadecimal, with its
 // line end; nothing exactly where the line is no such line.
+#[tactic(auto, using(crate::proofs::Inner::inner_facts))]
 pub fn read_key_line(line: &[u8]) -> Option<SlotKey>
     ensures { MatchOption result ((slot : ℕ) (key : List ℕ) → KeyLine line.now slot key → ⊥) (λ k. KeyLine line.now k.slot (bytes_of k.key)) }
 {
-    let Some(inner) = between(line, b"(key ", b")\n") else {
+    let inner = between(line, b"(key ", b")\n")?;
+    let [digit @ b'0'..=b'7', b' ', hex @ ..] = inner else {
         return None;
     };
-    if inner.len() < 2 || inner[1] != b' ' {
-        return None;
-    }
-    let slot = inner[0];
-    if slot < b'0' || slot > b'7' {
-        return None;
-    }
     let mut bytes = [0; LONGEST_KEY];
-    let Some(len) = read_hex(&inner[2..], &mut bytes) else {
-        return None;
-    };
-    let Some(key) = Key::new(&bytes[0..len]) else {
-        return None;
-    };
+    let len = read_hex(hex, &mut bytes)?;
+    let key = Key::new(&bytes[..len])?;
     Some(SlotKey {
-        slot: slot - b'0',
+        slot: digit - b'0',
         key,
     })
 }
@@ -59,8 +47,5 @@ pub fn read_key_line(line: &[u8]) -> Option<SlotKey>
 pub fn read_last_line(line: &[u8]) -> Option<u32>
     ensures { MatchOption result ((serial : ℕ) → LastLine line.now serial → ⊥) (λ n. LastLine line.now n) }
 {
-    let Some(digits) = between(line, b"(last ", b")\n") else {
-        return None;
-    };
-    read_number(digits)
+    read_number(between(line, b"(last ", b")\n")?)
 }

@@ -1,18 +1,10 @@
-use Rattle.std.proofs.Common.{sym, refl, arith}
-use Rattle.std.proofs.lemmas.Bool.{cond-false, lt-ltb, le-ltb, and_left}
+use Rattle.std.proofs.Common.{arith}
+use Rattle.std.proofs.lemmas.Grind.{common_steps}
 use Rattle.book.proofs.Steps.{clear_noted}
 use Rattle.book.proofs.Table.clear.Goals as goal
 
-pub returns-then-slot-ge-SLOTS : goal.returns-then-slot-ge-SLOTS
-returns-then-slot-ge-SLOTS c =
-    let t = le-ltb c.args.slot 8 (omega arith) in
-    record {
-      answer = rw t refl;
-      after = λ s. sym (cond-false _ _ _ (and_left _ _ t));
-      noted = λ seal. clear_noted seal _ _ c.args.slot (λ s. sym (cond-false _ _ _ (and_left _ _ t)));
-    }
+pub returns-in_err-check_slot-clause-noted : goal.returns-in_err-check_slot-clause-noted
+returns-in_err-check_slot-clause-noted c seal = clear_noted _ _ seal c.args.slot (grind (arith, common_steps))
 
-pub returns : goal.returns
-returns c =
-    let t = lt-ltb c.args.slot 8 (omega arith) in
-    record { answer = rw t refl; after = c.put.ensures; noted = λ seal. clear_noted seal _ _ c.args.slot c.put.ensures }
+pub returns-clause-noted : goal.returns-clause-noted
+returns-clause-noted c seal = clear_noted _ _ seal c.args.slot c.put.ensures
