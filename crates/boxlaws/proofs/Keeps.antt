@@ -1,12 +1,12 @@
 -- What calls leave in the book.
-use Rattle.std.proofs.Common.{◌≡◌, ℕ, ◌<◌, Bool, true, false, cond, ◌&&◌, eqb, ltb, List, ◌∷◌, get_or, Some, None, sym, refl, ap, ◌∙◌, inl, inr, ⊎_elim, arith}
-use Rattle.std.proofs.lemmas.Bool.{and_parts, ne_eqb}
+use Rattle.std.proofs.Common.{◌≡◌, ℕ, ◌<◌, false, cond, ◌&&◌, eqb, ltb, List, ◌∷◌, get_or, Some, None, sym, refl, ap, ◌∙◌, inl, inr, ⊎_elim, arith}
+use Rattle.std.proofs.lemmas.Bool.{and_parts, and_right, ne_eqb, false_from_ne_true}
+use Rattle.std.proofs.lemmas.Option.{none-some}
 use Rattle.refusal.specs.declared.Refusal.TheVariants.{NoSlot, KeyLength}
 use Rattle.hash.specs.declared.Strength.{Strength}
 use Rattle.stream.specs.Stream.{StreamOf}
 use Rattle.sealed.specs.Line.{LawfulHeader}
-use Rattle.book.specs.declared.Slot.{Slot}
-use Rattle.book.specs.Keys.{empty}
+use Rattle.book.specs.Keys.{Slot, last_of, empty}
 use Rattle.book.specs.Answers.{set_checks, slot_check}
 use Rattle.book.specs.Book.{Call, KindOf, Sealing, setting, clearing, asking, opening, hits, good_key, key_in, text_of, slot_count, Granted, Opened}
 use Rattle.book.specs.Stands.{Stands}
@@ -16,17 +16,8 @@ use Rattle.sheet.proofs.Lines as lines
 use Rattle.sheet.proofs.Shapes.{text_bytes}
 use Rattle.boxlaws.specs.Keeps.{SameFor, Unheard, NotFor, OtherSlotsKeep, RefusedKeep}
 
-and_false : (a b : Bool) → b ≡ false → (a && b) ≡ false
-and_false true b e = e
-and_false false b e = refl
-
--- a test that is not true is false
-not_true : (b : Bool) → (b ≡ true → ⊥) → b ≡ false
-not_true true n = absurd (n refl)
-not_true false n = refl
-
 other_slot : (t s : ℕ) → (t ≡ s → ⊥) → hits t s ≡ false
-other_slot t s ne = and_false (ltb t slot_count) (eqb s t) (ne_eqb s t (λ e. ne (sym e)))
+other_slot t s ne = and_right (ltb t slot_count) (eqb s t) (ne_eqb s t (λ e. ne (sym e)))
 
 module _ (seal : Sealing) (h : List Call) (s : ℕ) where
   -- a setting or a clearing that does not hit the slot
@@ -45,17 +36,15 @@ module _ (seal : Sealing) (h : List Call) (s : ℕ) where
 
 pub refused_keep : (seal : Sealing) → RefusedKeep seal
 refused_keep seal h = (
-  λ slot key why e s. missed_set seal h s slot key (not_true _ (λ both.
+  λ slot key why e s. missed_set seal h s slot key (false_from_ne_true _ (λ both.
       let p = and_parts (good_key key) (hits slot s) both in
       let q = and_parts (ltb slot slot_count) (eqb s slot) p.1 in
       let none : set_checks slot key ≡ None = ap (λ b. cond b (cond (good_key key) None (Some KeyLength)) (Some NoSlot)) q.0 ∙ ap (λ b. cond b None (Some KeyLength)) p.0 in
-      let z : ◌≡◌ {A = ℕ} 0 1 = cc in
-      omega arith)),
-  λ slot why e s. missed_clear seal h s slot (not_true _ (λ both.
+      none-some why (sym none ∙ e))),
+  λ slot why e s. missed_clear seal h s slot (false_from_ne_true _ (λ both.
       let q = and_parts (ltb slot slot_count) (eqb s slot) both in
       let none : slot_check slot ≡ None = ap (λ b. cond b None (Some NoSlot)) q.0 in
-      let z : ◌≡◌ {A = ℕ} 0 1 = cc in
-      omega arith)),
+      none-some why (sym none ∙ e))),
   λ slot s. asked seal h s slot,
 )
 
@@ -65,7 +54,7 @@ unheard seal slots next h l q work tray same st st' s =
     not_granted seal h s l q work tray (λ m g.
     let low = (st s).below m g.fresh in
     let high = (st' s).above m (inr g) in
-    omega (arith, low, high, ap (λ (x : Slot). x.last) (same s)))
+    omega (arith, low, high, ap last_of (same s)))
 
 module _ (f : StreamOf) (bytes : (seed nonce : List ℕ) (place : ℕ) → f.byte seed nonce place < 256) (s : Strength) where
   -- a granted line is a sealed line for the slot
@@ -84,7 +73,7 @@ module _ (f : StreamOf) (bytes : (seed nonce : List ℕ) (place : ℕ) → f.byt
       ne.1 _ (lines.lawful_parts f bytes s slot q.number m g.key (text_of g.lines) header (sealed.short, text_bytes q.has (λ x. x) ne.0.shaped g.lines sealed.lawful)) sealed.line_is refl
 
   pub others_keep : OtherSlotsKeep (sheet_line f s)
-  others_keep h (setting t k) slot ne = missed_set (sheet_line f s) h slot t k (and_false (good_key k) (hits t slot) (other_slot t slot ne))
+  others_keep h (setting t k) slot ne = missed_set (sheet_line f s) h slot t k (and_right (good_key k) (hits t slot) (other_slot t slot ne))
   others_keep h (clearing t) slot ne = missed_clear (sheet_line f s) h slot t (other_slot t slot ne)
   others_keep h (asking t) slot ne = asked (sheet_line f s) h slot t
   others_keep h (opening l q work tray) slot ne = not_granted (sheet_line f s) h slot l q work tray (never h l q work tray slot ne)

@@ -1,3 +1,4 @@
 mod Opens
 mod Keeps
 mod Replays
+mod Empty

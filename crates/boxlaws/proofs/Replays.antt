@@ -8,30 +8,30 @@ use Rattle.hash.specs.Strength.{siv_length}
 use Rattle.stream.specs.Stream.{StreamOf}
 use Rattle.sealed.specs.Line.{Parts, Lawful, sealed_line}
 use Rattle.sealed.proofs.Pieces.{one_reading}
-use Rattle.book.specs.declared.Slot.{Slot}
-use Rattle.book.specs.Keys.{key_of, empty}
+use Rattle.book.specs.Keys.{Slot, with_last, last_of, key_of, empty}
 use Rattle.book.specs.Book.{slot_count}
+use Rattle.book.proofs.Opens.{key_with_last, last_with_last}
 use Rattle.keybox.specs.Opening.{first_checks, sheet_text, Answered, LineAnswered, SlotsAfter}
 use Rattle.keybox.proofs.Judged.{chain_facts, chain_stale}
 use Rattle.keybox.proofs.Passing.{split_ok}
 
 module _ {X : Type 0} (f : StreamOf) (s : Strength) (number : ℕ) (reading : List ℕ → Option X) (l : List ℕ) (slots next : List Slot) where
   -- the line's slot after the first time
-  there : (p : Parts) → Lawful p → l ≡ sealed_line p → SlotsAfter l slots next true → get_or next p.slot empty ≡ record { key = (get_or slots p.slot empty).key; last = p.serial }
+  there : (p : Parts) → Lawful p → l ≡ sealed_line p → SlotsAfter l slots next true → get_or next p.slot empty ≡ with_last (get_or slots p.slot empty) p.serial
   there p good is after =
       let within : p.slot < slot_count = omega (arith, good.head.slot_last) in
       after.granted p good is p.slot
-      ∙ ap (λ b. cond b (record { key = (get_or slots p.slot empty).key; last = p.serial }) (get_or slots p.slot empty)) (and_from (ltb p.slot slot_count) (eqb p.slot p.slot) (lt-ltb p.slot slot_count within) (eq-eqb p.slot p.slot refl))
+      ∙ ap (λ b. cond b (with_last (get_or slots p.slot empty) p.serial) (get_or slots p.slot empty)) (and_from (ltb p.slot slot_count) (eqb p.slot p.slot) (lt-ltb p.slot slot_count within) (eq-eqb p.slot p.slot refl))
 
   -- the check of the serial fails the second time
-  stale : (work again : ℕ) (p : Parts) (slot then : Slot) → then ≡ record { key = slot.key; last = p.serial } → first_checks s slot number work p ≡ None → first_checks s then number again p ≡ Some StaleSerial
+  stale : (work again : ℕ) (p : Parts) (slot then : Slot) → then ≡ with_last slot p.serial → first_checks s slot number work p ≡ None → first_checks s then number again p ≡ Some StaleSerial
   stale work again p slot then e none =
-      let facts = chain_facts (not (eqb p.kind number)) (key_of slot) (not (ltb slot.last p.serial)) (not (eqb (length p.siv) (siv_length s))) (ltb work (length p.text)) none in
-      let later : Slot = record { key = slot.key; last = p.serial } in
+      let facts = chain_facts (not (eqb p.kind number)) (key_of slot) (not (ltb (last_of slot) p.serial)) (not (eqb (length p.siv) (siv_length s))) (ltb work (length p.text)) none in
+      let later : Slot = with_last slot p.serial in
       ap (λ (x : Slot). first_checks s x number again p) e
-      ∙ chain_stale (not (eqb p.kind number)) (key_of later) facts.1.0 (not (ltb p.serial p.serial)) (not (eqb (length p.siv) (siv_length s))) (ltb again (length p.text)) facts.0 facts.1.1 (ap not (le-ltb p.serial p.serial (omega arith)))
+      ∙ chain_stale (not (eqb p.kind number)) (key_of later) facts.1.0 (not (ltb (last_of later) p.serial)) (not (eqb (length p.siv) (siv_length s))) (ltb again (length p.text)) facts.0 (key_with_last slot p.serial ∙ facts.1.1) (ap not (le-ltb (last_of later) p.serial (omega (arith, last_with_last slot p.serial facts.1.0 facts.1.1))))
 
-  pub replayed : (work again : ℕ) (before mid after : List X) (n : ℕ) (r : Result ℕ Refusal) → LineAnswered f s slots number work reading l before mid (Ok n) → SlotsAfter l slots next true → LineAnswered f s next number again reading l mid after r → r ≡ Err StaleSerial
+  replayed : (work again : ℕ) (before mid after : List X) (n : ℕ) (r : Result ℕ Refusal) → LineAnswered f s slots number work reading l before mid (Ok n) → SlotsAfter l slots next true → LineAnswered f s next number again reading l mid after r → r ≡ Err StaleSerial
   replayed work again before mid after n r first moved second =
       ⊎_elim
       (λ no. absurd (let e = no.1.2 in let z : ◌≡◌ {A = ℕ} 0 1 = cc in omega arith))
@@ -48,9 +48,12 @@ module _ {X : Type 0} (f : StreamOf) (s : Strength) (number : ℕ) (reading : Li
       second)
       first
 
-  -- stream and strength stayed
-  pub replayed_kept : (f' : StreamOf) (s' : Strength) → f' ≡ f → s' ≡ s → (work again : ℕ) (before mid after : List X) (r r' : Result ℕ Refusal) → is_ok r ≡ true → LineAnswered f s slots number work reading l before mid r → SlotsAfter l slots next (is_ok r) → LineAnswered f' s' next number again reading l mid after r' → r' ≡ Err StaleSerial
-  replayed_kept f' s' ef es work again before mid after (Err why) r' ok first moved second = absurd (false≢true ok)
-  replayed_kept f' s' ef es work again before mid after (Ok n) r' ok first moved second =
-      let A : StreamOf → Strength → Type 0 = λ x y. LineAnswered x y next number again reading l mid after r' in
-      replayed work again before mid after n r' first moved (subst (A f) es (subst (λ x. A x s') ef second))
+  -- stream, strength and the length of the work buffer stayed
+  pub stayed : (f' : StreamOf) (s' : Strength) (work work' : ℕ) → f' ≡ f → s' ≡ s → work' ≡ work → (mid after : List X) (r : Result ℕ Refusal) → LineAnswered f' s' next number work' reading l mid after r → LineAnswered f s next number work reading l mid after r
+  stayed f' s' work work' ef es ew mid after r a =
+      let A : StreamOf → Strength → ℕ → Type 0 = λ x y w. LineAnswered x y next number w reading l mid after r in
+      subst (A f s) ew (subst (λ y. A f y work') es (subst (λ x. A x s' work') ef a))
+
+  pub replay : (work again : ℕ) (before mid after : List X) (r r' : Result ℕ Refusal) → is_ok r ≡ true → LineAnswered f s slots number work reading l before mid r → SlotsAfter l slots next (is_ok r) → LineAnswered f s next number again reading l mid after r' → r' ≡ Err StaleSerial
+  replay work again before mid after (Err why) r' ok first moved second = absurd (false≢true ok)
+  replay work again before mid after (Ok n) r' ok first moved second = replayed work again before mid after n r' first moved second

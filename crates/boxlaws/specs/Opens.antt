@@ -1,9 +1,19 @@
 -- What opens after a key was set.
-use Rattle.std.specs.Prelude.{◌≡◌, ℕ, ◌<◌, ◌≤◌, Bool, true, List, ◌++◌, length, drop, Ok, Result}
+use Rattle.std.specs.Prelude.{◌≡◌, ℕ, ◌<◌, ◌≤◌, Bool, true, ◌⊎◌, List, ◌++◌, length, drop, if◌then◌else◌, Ok, Err, Result, ◌==◌}
 use Rattle.refusal.specs.declared.Refusal.{Refusal}
+use Rattle.refusal.specs.declared.Refusal.TheVariants.{OtherKind, EmptySlot, NoSealedLine}
+use Rattle.shape.specs.Column.{Column}
+use Rattle.sealed.specs.Line.{Parts, Lawful, SealedLine, sealed_line}
 use Rattle.kinds.specs.Text.{Sheet}
 use Rattle.book.specs.Book.{Sealing, good_key, slot_count, most_items, most_bytes}
 use Rattle.book.specs.Law.{Seals}
+
+-- A box with no key answers to a line that is no sealed line with the column of the fault, and to any other that it is
+-- of another kind or that its slot is empty.
+abbrev pub NoKeyAnswered : (number : ℕ) (l : List ℕ) → Result ℕ Refusal → Type 0
+NoKeyAnswered number l r =
+    ((SealedLine l → ⊥) × ((c : ℕ) × Column SealedLine l c × (r ≡ Err (NoSealedLine c))))
+    ⊎ ((p : Parts) × Lawful p × (l ≡ sealed_line p) × (r ≡ Err (if p.kind == number then EmptySlot else OtherKind)))
 
 -- A kind: which items are lawful, which line each has, and its number.
 module _ {X : Type 0} (seal : Sealing) (lawful : X → Bool) (line : X → List ℕ) (number : ℕ) where

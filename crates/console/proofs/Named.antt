@@ -9,8 +9,8 @@ use Rattle.console.specs.Opening.{Names}
 pub same_kind : (l : List ℕ) (p q : Parts) → Lawful p → Lawful q → l ≡ sealed_line p → l ≡ sealed_line q → p.kind ≡ q.kind
 same_kind l p q good-p good-q ep eq = ap (λ (x : Parts). x.kind) (one_reading p q good-p good-q (sym ep ∙ eq))
 
-pub names_decided : (l : List ℕ) (p : Parts) (kind k n : ℕ) → Lawful p → l ≡ sealed_line p → k ≡ p.kind → n ≡ kind → Decides (eqb k n) (Names kind l)
-names_decided l p kind k n good is ek en = (
-  λ e. (p, good, is, sym ek ∙ eqb-true k n e ∙ en),
-  λ named. eq-eqb k n (ek ∙ same_kind l p named.0 good named.1 is named.2 ∙ named.3 ∙ sym en),
+pub names_decided : (l : List ℕ) (p : Parts) (kind k : ℕ) → Lawful p → l ≡ sealed_line p → k ≡ p.kind → Decides (eqb k kind) (Names kind l)
+names_decided l p kind k good is ek = (
+  λ e. (p, good, is, sym ek ∙ eqb-true k kind e),
+  λ named. eq-eqb k kind (ek ∙ same_kind l p named.0 good named.1 is named.2 ∙ named.3),
 )

@@ -49,8 +49,9 @@ fn push_sheet<K: Kind>(
 fn names_settings(line: &[u8]) -> bool
     ensures { Decides result (Names 2 line.now) }
 {
+    // Not `is_ok_and`: the check does not tell what its closure says of the sheet.
     match Unchecked::read(line) {
-        Ok(sheet) => sheet.kind() == Setting::its_number(),
+        Ok(sheet) => sheet.kind() == Setting::NUMBER,
         Err(_) => false,
     }
 }
@@ -66,8 +67,8 @@ fn open_as<K: Kind>(
     out: &mut Vec<u8>,
 ) -> Result<(), AllocError>
     requires { (length work.old ≡ most_bytes) × (length places.old ≡ most_items) }
-    ensures kept { (keys.new.stream ≡ keys.old.stream) × (keys.new.strength ≡ keys.old.strength) }
-    ensures given { OnOk result ((p : List ℕ) × Given (chacha_of (count keys.old.stream.rounds)) keys.old.strength K.Kind.lawful K.Kind.line K.Kind.tag K.Kind.reading keys.old.table.slots keys.new.table.slots line.now p × (out.new.items ≡ out.old.items ++ p)) }
+    ensures kept { keys.new.cipher ≡ keys.old.cipher }
+    ensures given { OnOk result ((p : List ℕ) × Given (chacha_of (count keys.old.cipher.stream.rounds)) keys.old.cipher.strength K.Kind.lawful K.Kind.line K.Kind.NUMBER K.Kind.reading keys.old.table.slots keys.new.table.slots line.now p × (out.new.items ≡ out.old.items ++ p)) }
 {
     let mut tray = Tray::new(places);
     match keys.open_line::<K>(line, work, &mut tray) {

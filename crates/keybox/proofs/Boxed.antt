@@ -5,8 +5,7 @@ use Rattle.hash.specs.declared.Strength.{Strength}
 use Rattle.stream.specs.Stream.{StreamOf}
 use Rattle.shape.specs.Form.{WellShaped}
 use Rattle.sealed.specs.Line.{Parts, Lawful, SealedLine, sealed_line}
-use Rattle.book.specs.declared.Slot.{Slot}
-use Rattle.book.specs.Keys.{empty}
+use Rattle.book.specs.Keys.{Slot, with_last, empty}
 use Rattle.book.specs.Book.{Call, opening, kind_of, hits, slot_count}
 use Rattle.book.specs.Stands.{Stands, Noted}
 use Rattle.book.specs.Law.{OpenLaw}
@@ -57,7 +56,7 @@ module _ {X : Type 0} (f : StreamOf) (bytes : (seed nonce : List ℕ) (place : �
 
     -- the opening was granted
     module _ (after : List X) (n : ℕ) (a : Answered (first_checks s slot number work p) (sheet_text f s slot p) reading before after (Ok n)) where
-      pub granted_noted : (next : List Slot) → ((t : ℕ) → get_or next t empty ≡ cond (hits p.slot t) (record { key = slot.key; last = p.serial }) (get_or slots t empty)) → Noted (sheet_line f s) slots next (call ∷ [])
+      pub granted_noted : (next : List Slot) → ((t : ℕ) → get_or next t empty ≡ cond (hits p.slot t) (with_last slot p.serial) (get_or slots t empty)) → Noted (sheet_line f s) slots next (call ∷ [])
       granted_noted next e =
           let o = passed f bytes s lawful line number reading numbered shaped found sound slots l work before p is_lawful is_line after n a in
           opens.passed_noted lawful line number reading found sound (Ready f bytes s lawful line number reading numbered shaped found sound) (ready f bytes s lawful line number reading numbered shaped found sound) (sheet_line f s) (apart f bytes s lawful line number reading numbered shaped found sound) (one_list f bytes s lawful line number reading numbered shaped found sound) slots l work before p.slot p.serial o.0 o.1.0 o.1.1 next e

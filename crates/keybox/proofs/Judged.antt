@@ -1,10 +1,9 @@
 -- The checks of an opening, one after the other.
-use Rattle.std.proofs.Common.{◌≡◌, ℕ, ◌-◌, ◌<◌, ◌≤◌, Bool, true, false, not, eqb, ltb, List, [], ◌++◌, length, take, drop, replicate, Some, None, Err, Option, Result, unwrap_or, sym, refl, ap, ◌∙◌, subst, arith}
-use Rattle.std.specs.Option.{option_map}
+use Rattle.std.proofs.Common.{◌≡◌, ℕ, ◌-◌, ◌<◌, ◌≤◌, Bool, true, false, not, List, [], ◌++◌, length, take, drop, Some, None, Err, Option, Result, unwrap_or, sym, refl, ap, ◌∙◌, subst, arith}
 use Rattle.std.proofs.lemmas.List.{take_at}
-use Rattle.std.proofs.lemmas.Bool.{true≢false, false≢true, le-ltb, lt-ltb, eq-eqb, ne_eqb, leb-true}
+use Rattle.std.proofs.lemmas.Bool.{true≢false, false≢true, le-ltb, lt-ltb, eq-eqb, leb-true}
 use Rattle.refusal.specs.declared.Refusal.{Refusal}
-use Rattle.refusal.specs.declared.Refusal.TheVariants.{OtherKind, EmptySlot, StaleSerial, SivLength, ShortWork, WrongSiv}
+use Rattle.refusal.specs.declared.Refusal.TheVariants.{OtherKind, StaleSerial, SivLength, ShortWork, WrongSiv}
 use Rattle.hash.specs.declared.Strength.{Strength}
 use Rattle.hash.specs.Strength.{siv_length}
 use Rattle.hs1.specs.Checks.{refuse_if, or_else}
@@ -14,19 +13,14 @@ use Rattle.stream.specs.Stream.{StreamOf}
 use Rattle.sealed.specs.Line.{Parts, Lawful, header_of}
 use Rattle.sealed.proofs.Lengths.{longest_header_is}
 use Rattle.sheet.specs.Sheet.{nonce_of}
-use Rattle.book.specs.declared.Slot.{Slot}
-use Rattle.book.specs.declared.key.Key.{Key}
-use Rattle.book.specs.Keys.{key_of, bytes_of}
+use Rattle.book.specs.declared.Held.{Held}
+use Rattle.book.specs.Keys.{Slot, last_of, key_of, bytes_of}
 use Rattle.kinds.specs.Text.{Fills}
 use Rattle.keybox.specs.Opening.{no_key, first_checks, sheet_text, Answered}
 
 abbrev pub chain : (a : Bool) (k : Option (List ℕ)) (b c d : Bool) → Option Refusal
 chain a k b c d =
     or_else (refuse_if a OtherKind) (or_else (no_key k) (or_else (refuse_if b StaleSerial) (or_else (refuse_if c SivLength) (refuse_if d ShortWork))))
-
--- the first test that is true gives the refusal
-chain_empty : (a : Bool) (k : Option (List ℕ)) (b c d : Bool) → a ≡ false → k ≡ None → chain a k b c d ≡ Some EmptySlot
-chain_empty a k b c d ea ek = ap (λ x. chain x k b c d) ea ∙ ap (λ x. chain false x b c d) ek
 
 module _ (a : Bool) (k : Option (List ℕ)) (x : List ℕ) (b c d : Bool) (ea : a ≡ false) (ek : k ≡ Some x) where
   from_serial : chain a k b c d ≡ or_else (refuse_if b StaleSerial) (or_else (refuse_if c SivLength) (refuse_if d ShortWork))
@@ -38,76 +32,29 @@ module _ (a : Bool) (k : Option (List ℕ)) (x : List ℕ) (b c d : Bool) (ea : 
   from_siv : b ≡ false → chain a k b c d ≡ or_else (refuse_if c SivLength) (refuse_if d ShortWork)
   from_siv e = from_serial ∙ ap (λ y. or_else (refuse_if y StaleSerial) (or_else (refuse_if c SivLength) (refuse_if d ShortWork))) e
 
-  chain_siv : b ≡ false → c ≡ true → chain a k b c d ≡ Some SivLength
-  chain_siv e h = from_siv e ∙ ap (λ y. or_else (refuse_if y SivLength) (refuse_if d ShortWork)) h
-
-  chain_work : b ≡ false → c ≡ false → d ≡ true → chain a k b c d ≡ Some ShortWork
-  chain_work e h w = from_siv e ∙ ap (λ y. or_else (refuse_if y SivLength) (refuse_if d ShortWork)) h ∙ ap (λ y. refuse_if y ShortWork) w
-
   pub chain_none : b ≡ false → c ≡ false → d ≡ false → chain a k b c d ≡ None
   chain_none e h w = from_siv e ∙ ap (λ y. or_else (refuse_if y SivLength) (refuse_if d ShortWork)) h ∙ ap (λ y. refuse_if y ShortWork) w
 
--- a refusal by a check
-refused : {X : Type 0} (o : Option Refusal) (why : Refusal) (text : Option (List ℕ)) (reading : List ℕ → Option X) (before : List X) → o ≡ Some why → Answered o text reading before before (Err why)
-refused o why text reading before e =
-    let P : Option Refusal → Type 0 = λ c. Answered c text reading before before (Err why) in
-    subst P (sym e) (refl, refl)
+pub passes : (s : Strength) (slot : Slot) (number work : ℕ) (p : Parts) → p.kind ≡ number → (held : Held) → slot ≡ Some held → held.last < p.serial → length p.siv ≡ siv_length s → length p.text ≤ work → first_checks s slot number work p ≡ None
+passes s slot number work p kind held is later long room =
+    chain_none _ (key_of slot) (bytes_of held.key) _ _ _ (ap not (eq-eqb p.kind number kind)) (ap key_of is)
+    (ap not (lt-ltb (last_of slot) p.serial (omega (arith, later, ap last_of is))))
+    (ap not (eq-eqb (length p.siv) (siv_length s) long))
+    (le-ltb work (length p.text) room)
 
-module _ {X : Type 0} (s : Strength) (slot : Slot) (number work : ℕ) (p : Parts) (text : Option (List ℕ)) (reading : List ℕ → Option X) (before : List X) (kind : p.kind ≡ number) where
-  abbrev checks : Option Refusal
-  checks = first_checks s slot number work p
+-- Where no check fails, what is answered is by the text: none is a wrong SIV.
+module _ {X : Type 0} (checks : Option Refusal) (text : Option (List ℕ)) (reading : List ℕ → Option X) (before after : List X) where
+  pub wrong : checks ≡ None → text ≡ None → after ≡ before → Answered checks text reading before after (Err WrongSiv)
+  wrong n e s =
+      let P : Option Refusal → Type 0 = λ c. Answered c text reading before after (Err WrongSiv) in
+      let Q : Option (List ℕ) → Type 0 = λ t. Answered None t reading before after (Err WrongSiv) in
+      subst P (sym n) (subst Q (sym e) (refl, s))
 
-  abbrev old : Bool
-  old = not (ltb slot.last p.serial)
-
-  abbrev odd : Bool
-  odd = not (eqb (length p.siv) (siv_length s))
-
-  abbrev tight : Bool
-  tight = ltb work (length p.text)
-
-  right_kind : not (eqb p.kind number) ≡ false
-  right_kind = ap not (eq-eqb p.kind number kind)
-
-  pub empty_slot : slot.key ≡ None → Answered checks text reading before before (Err EmptySlot)
-  empty_slot e = refused checks EmptySlot text reading before (chain_empty _ (key_of slot) old odd tight right_kind (ap (option_map bytes_of) e))
-
-  module _ (key : Key) (is : slot.key ≡ Some key) where
-    has_key : key_of slot ≡ Some (bytes_of key)
-    has_key = ap (option_map bytes_of) is
-
-    pub stale : p.serial ≤ slot.last → Answered checks text reading before before (Err StaleSerial)
-    stale h = refused checks StaleSerial text reading before (chain_stale _ (key_of slot) (bytes_of key) old odd tight right_kind has_key (ap not (le-ltb slot.last p.serial h)))
-
-    module _ (later : slot.last < p.serial) where
-      is_later : not (ltb slot.last p.serial) ≡ false
-      is_later = ap not (lt-ltb slot.last p.serial later)
-
-      pub other_length : (length p.siv ≡ siv_length s → ⊥) → Answered checks text reading before before (Err SivLength)
-      other_length h = refused checks SivLength text reading before (chain_siv _ (key_of slot) (bytes_of key) old odd tight right_kind has_key is_later (ap not (ne_eqb (length p.siv) (siv_length s) h)))
-
-      module _ (long : length p.siv ≡ siv_length s) where
-        is_long : not (eqb (length p.siv) (siv_length s)) ≡ false
-        is_long = ap not (eq-eqb (length p.siv) (siv_length s) long)
-
-        pub short_work : work < length p.text → Answered checks text reading before before (Err ShortWork)
-        short_work h = refused checks ShortWork text reading before (chain_work _ (key_of slot) (bytes_of key) old odd tight right_kind has_key is_later is_long (lt-ltb work (length p.text) h))
-
-        module _ (room : length p.text ≤ work) where
-          passes : checks ≡ None
-          passes = chain_none _ (key_of slot) (bytes_of key) old odd tight right_kind has_key is_later is_long (le-ltb work (length p.text) room)
-
-          pub wrong : text ≡ None → Answered checks text reading before before (Err WrongSiv)
-          wrong e =
-              let P : Option Refusal → Type 0 = λ c. Answered c text reading before before (Err WrongSiv) in
-              let Q : Option (List ℕ) → Type 0 = λ t. Answered None t reading before before (Err WrongSiv) in
-              subst P (sym passes) (subst Q (sym e) (refl, refl))
-
-          pub filled : (t : List ℕ) (after : List X) (r : Result ℕ Refusal) → text ≡ Some t → Fills reading t before after r → Answered checks text reading before after r
-          filled t after r e h =
-              let P : Option Refusal → Type 0 = λ c. Answered c text reading before after r in
-              let Q : Option (List ℕ) → Type 0 = λ t. Answered None t reading before after r in
-              subst P (sym passes) (subst Q (sym e) h)
+  pub filled : (r : Result ℕ Refusal) (t : List ℕ) → checks ≡ None → text ≡ Some t → Fills reading t before after r → Answered checks text reading before after r
+  filled r t n e h =
+      let P : Option Refusal → Type 0 = λ c. Answered c text reading before after r in
+      let Q : Option (List ℕ) → Type 0 = λ t. Answered None t reading before after r in
+      subst P (sym n) (subst Q (sym e) h)
 
 -- what unmasking says of the text
 pub not_opened : (t : Option (List ℕ)) (n : ℕ) (after : List ℕ) (good : Bool) → OpenedThere t n after good → good ≡ false → t ≡ None
@@ -118,25 +65,18 @@ pub is_opened : (t : Option (List ℕ)) (n : ℕ) (after : List ℕ) (good : Boo
 is_opened None n after good o e = absurd (false≢true (sym o.good_is ∙ e))
 is_opened (Some t) n after good o e = ap Some (sym o.after_is)
 
--- the SIV and the text as they stand in the arrays
-pub siv_there : (siv bytes : List ℕ) (len : ℕ) → len ≡ length siv → bytes ≡ siv ++ replicate (32 - length siv) 0 → take (len - 0) bytes ≡ siv
-siv_there siv bytes len l e =
-    let n : len - 0 ≡ length siv = omega arith in
-    ap (λ m. take m bytes) n ∙ ap (take (length siv)) e ∙ take_at siv _ (length siv) refl
-
+-- the masked text as it stands at the front of the work buffer
 pub text_there : (cipher before after : List ℕ) (n : ℕ) → n ≡ length cipher → after ≡ cipher ++ drop n before → take (n - 0) after ≡ cipher
-text_there cipher before after n l e =
-    let m : n - 0 ≡ length cipher = omega arith in
-    ap (λ k. take k after) m ∙ ap (take (length cipher)) e ∙ take_at cipher _ (length cipher) refl
+text_there cipher before after n l e = ap (λ m. take m after) (omega (arith, l)) ∙ ap (take (length cipher)) e ∙ take_at cipher _ (length cipher) refl
 
 -- what is unmasked is the text of the sheet
-pub text_is : (f : StreamOf) (s : Strength) (slot : Slot) (key : Key) (p : Parts) (serial : ℕ) (header siv text : List ℕ) → slot.key ≡ Some key → serial ≡ p.serial → header ≡ header_of p.slot p.kind p.serial → siv ≡ p.siv → text ≡ p.text → sheet_text f s slot p ≡ opened f s (bytes_of key) (nonce_of serial) header siv text
-text_is f s slot key p serial header siv text k n h i t =
-    ap (λ o. opened f s (unwrap_or (option_map bytes_of o) []) (nonce_of p.serial) (header_of p.slot p.kind p.serial) p.siv p.text) k
-    ∙ ap (λ x. opened f s (bytes_of key) (nonce_of x) (header_of p.slot p.kind p.serial) p.siv p.text) (sym n)
-    ∙ ap (λ x. opened f s (bytes_of key) (nonce_of serial) x p.siv p.text) (sym h)
-    ∙ ap (λ x. opened f s (bytes_of key) (nonce_of serial) header x p.text) (sym i)
-    ∙ ap (λ x. opened f s (bytes_of key) (nonce_of serial) header siv x) (sym t)
+pub text_is : (f : StreamOf) (s : Strength) (slot : Slot) (held : Held) (p : Parts) (serial : ℕ) (header siv text : List ℕ) → slot ≡ Some held → serial ≡ p.serial → header ≡ header_of p.slot p.kind p.serial → siv ≡ p.siv → text ≡ p.text → sheet_text f s slot p ≡ opened f s (bytes_of held.key) (nonce_of serial) header siv text
+text_is f s slot held p serial header siv text k n h i t =
+    ap (λ o. opened f s (unwrap_or (key_of o) []) (nonce_of p.serial) (header_of p.slot p.kind p.serial) p.siv p.text) k
+    ∙ ap (λ x. opened f s (bytes_of held.key) (nonce_of x) (header_of p.slot p.kind p.serial) p.siv p.text) (sym n)
+    ∙ ap (λ x. opened f s (bytes_of held.key) (nonce_of serial) x p.siv p.text) (sym h)
+    ∙ ap (λ x. opened f s (bytes_of held.key) (nonce_of serial) header x p.text) (sym i)
+    ∙ ap (λ x. opened f s (bytes_of held.key) (nonce_of serial) header siv x) (sym t)
 
 -- the lengths that a lawful sheet has
 pub header_few : (p : Parts) (header : List ℕ) → Lawful p → header ≡ header_of p.slot p.kind p.serial → length header ≤ 46

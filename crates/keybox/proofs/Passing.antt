@@ -13,8 +13,7 @@ use Rattle.kinds.specs.Text.{Fills}
 use Rattle.kinds.proofs.Sheets.{one_answer, reads_its_text}
 use Rattle.sealed.specs.Line.{Parts, Lawful, SealedLine, header_of, sealed_line}
 use Rattle.sealed.proofs.Pieces.{one_reading}
-use Rattle.book.specs.declared.Slot.{Slot}
-use Rattle.book.specs.Keys.{key_of, empty}
+use Rattle.book.specs.Keys.{Slot, last_of, key_of, empty}
 use Rattle.book.specs.Book.{slot_count}
 use Rattle.book.specs.Law.{Passes}
 use Rattle.sheet.specs.Sheet.{nonce_of, sealed_parts, sheet_line}
@@ -65,11 +64,11 @@ module _ {X : Type 0} (f : StreamOf) (bytes : (seed nonce : List ℕ) (place : �
       unfolding sheet_line
       passed after n a =
           let o = split_ok reading before after n (first_checks s slot number work p) (sheet_text f s slot p) a in
-          let facts = chain_facts (not (eqb p.kind number)) (key_of slot) (not (ltb slot.last p.serial)) (not (eqb (length p.siv) (siv_length s))) (ltb work (length p.text)) o.0 in
+          let facts = chain_facts (not (eqb p.kind number)) (key_of slot) (not (ltb (last_of slot) p.serial)) (not (eqb (length p.siv) (siv_length s))) (ltb work (length p.text)) o.0 in
           let kind : p.kind ≡ number = eqb-true p.kind number (not_false _ facts.0) in
           let key = facts.1.0 in
           let key_is : key_of slot ≡ Some key = facts.1.1 in
-          let later : slot.last < p.serial = ltb-true slot.last p.serial (not_false _ facts.2) in
+          let later : last_of slot < p.serial = ltb-true (last_of slot) p.serial (not_false _ facts.2) in
           let room : length p.text ≤ work = ltb-false work (length p.text) facts.4 in
           let t = o.1.0 in
           let nonce = nonce_of p.serial in
@@ -125,7 +124,7 @@ module _ {X : Type 0} (f : StreamOf) (bytes : (seed nonce : List ℕ) (place : �
           let header = header_of a number m in
           let none : first_checks s there number work q ≡ None =
           chain_none _ (key_of there) key _ _ _ (ap not (eq-eqb number number refl)) ps.key_is
-          (ap not (lt-ltb there.last m ps.later))
+          (ap not (lt-ltb (last_of there) m ps.later))
           (ap not (eq-eqb _ (siv_length s) (lines.length_siv f bytes s key nonce header text)))
           (le-ltb work _ (omega (arith, ps.space, lines.length_ciphertext f bytes s key nonce header text))) in
           let plain : sheet_text f s there q ≡ Some text =

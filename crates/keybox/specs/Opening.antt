@@ -1,5 +1,5 @@
 -- What opening a sheet answers, check by check.
-use Rattle.std.specs.Prelude.{◌≡◌, ℕ, Bool, false, cond, not, ◌&&◌, ◌⊎◌, List, [], length, slice_index_or, Some, None, Err, Option, Result, ◌==◌, nat_lt}
+use Rattle.std.specs.Prelude.{◌≡◌, ℕ, Bool, false, cond, not, ◌&&◌, ◌⊎◌, List, [], length, Some, None, Err, Option, Result, ◌==◌, nat_lt}
 use Rattle.std.specs.Option.{unwrap_or}
 use Rattle.refusal.specs.declared.Refusal.{Refusal}
 use Rattle.refusal.specs.declared.Refusal.TheVariants.{OtherKind, EmptySlot, StaleSerial, SivLength, ShortWork, WrongSiv, NoSealedLine}
@@ -11,9 +11,8 @@ use Rattle.hs1.specs.Seal.{opened}
 use Rattle.kinds.specs.Text.{Fills}
 use Rattle.sealed.specs.Line.{Parts, Lawful, SealedLine, header_of, sealed_line}
 use Rattle.shape.specs.Column.{Column}
-use Rattle.book.specs.declared.Slot.{Slot}
 use Rattle.book.specs.Book.{hits}
-use Rattle.book.specs.Keys.{key_of, empty}
+use Rattle.book.specs.Keys.{Slot, key_of, last_of, slot_at, with_last}
 use Rattle.sheet.specs.Sheet.{nonce_of}
 
 -- a slot without a key
@@ -27,7 +26,7 @@ abbrev pub first_checks : Strength → Slot → (number work : ℕ) → Parts �
 first_checks s slot number work p =
     or_else (refuse_if (not (p.kind == number)) OtherKind)
     (or_else (no_key (key_of slot))
-    (or_else (refuse_if (not (nat_lt slot.last p.serial)) StaleSerial)
+    (or_else (refuse_if (not (nat_lt (last_of slot) p.serial)) StaleSerial)
     (or_else (refuse_if (not (length p.siv == siv_length s)) SivLength)
     (refuse_if (nat_lt work (length p.text)) ShortWork))))
 
@@ -49,10 +48,10 @@ Answered None (Some text) reading before after r = Fills reading text before aft
 abbrev pub LineAnswered : {X : Type 0} → StreamOf → Strength → (slots : List Slot) (number work : ℕ) → (List ℕ → Option X) → (l : List ℕ) (before after : List X) → Result ℕ Refusal → Type 0
 LineAnswered f s slots number work reading l before after r =
     ((SealedLine l → ⊥) × ((c : ℕ) × Column SealedLine l c × (r ≡ Err (NoSealedLine c))) × (after ≡ before))
-    ⊎ ((p : Parts) × Lawful p × (l ≡ sealed_line p) × Answered (first_checks s (slice_index_or slots p.slot empty) number work p) (sheet_text f s (slice_index_or slots p.slot empty) p) reading before after r)
+    ⊎ ((p : Parts) × Lawful p × (l ≡ sealed_line p) × Answered (first_checks s (slot_at slots p.slot) number work p) (sheet_text f s (slot_at slots p.slot) p) reading before after r)
 
 -- The slots after giving a box any bytes: as they were on a refusal; else the slot that the line names has the line's
 -- serial for its last, under the same key, and the others are as they were.
 pub record SlotsAfter (l : List ℕ) (before after : List Slot) (opened : Bool) : Type 0 where
-  pub refused : opened ≡ false → (s : ℕ) → slice_index_or after s empty ≡ slice_index_or before s empty
-  pub granted : (p : Parts) → Lawful p → l ≡ sealed_line p → (s : ℕ) → slice_index_or after s empty ≡ cond (opened && hits p.slot s) (record { key = (slice_index_or before p.slot empty).key; last = p.serial }) (slice_index_or before s empty)
+  pub refused : opened ≡ false → (s : ℕ) → slot_at after s ≡ slot_at before s
+  pub granted : (p : Parts) → Lawful p → l ≡ sealed_line p → (s : ℕ) → slot_at after s ≡ cond (opened && hits p.slot s) (with_last (slot_at before p.slot) p.serial) (slot_at before s)

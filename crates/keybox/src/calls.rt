@@ -8,20 +8,32 @@ ghost use Rattle.book.specs.Stands.{Noted};
 ghost use Rattle.sheet.specs.Sheet.{sheet_line};
 
 use crate::KeyBox;
-use hash::Strength;
+use hs1::Cipher;
 use kinds::{Kind, Tray};
 use refusal::Refusal;
 use stream::Stream;
 
-// A list of calls, newest first, that can be played on a box.
+// One call that can be made on a box.
+pub trait OneCall<S: Stream> {
+    // the call, as the book knows it
+    ghost call: { Self → Call };
+
+    // Makes the call.
+    fn make(self, b: &mut KeyBox<S>)
+        ensures kept { b.new.cipher ≡ b.old.cipher }
+        ensures noted { Noted (sheet_line (S.Stream.meaning b.old.cipher.stream) b.old.cipher.strength) b.old.table.slots b.new.table.slots (call self ∷ []) };
+}
+
+// A list of calls, newest first, that can be played on a box. A type and no
+// closure, since the type says which calls the book has.
 pub trait Calls<S: Stream> {
     // the calls, as the book knows them
     ghost calls: { Self → List Call };
 
     // Makes the calls, the oldest first.
     fn play(self, b: &mut KeyBox<S>)
-        ensures kept { (b.new.stream ≡ b.old.stream) × (b.new.strength ≡ b.old.strength) }
-        ensures noted { Noted (sheet_line (S.Stream.meaning b.old.stream) b.old.strength) b.old.table.slots b.new.table.slots (calls self) };
+        ensures kept { b.new.cipher ≡ b.old.cipher }
+        ensures noted { Noted (sheet_line (S.Stream.meaning b.old.cipher.stream) b.old.cipher.strength) b.old.table.slots b.new.table.slots (calls self) };
 }
 
 // No call at all.
@@ -34,78 +46,82 @@ impl<S: Stream> Calls<S> for Nothing {
     fn play(self, _b: &mut KeyBox<S>) {}
 }
 
-// A key is set after the calls `before`.
+// A call after the calls `before`.
 #[derive(Drop)]
-pub struct SetKey<'a, P> {
+pub struct Then<P, C> {
     pub before: P,
+    pub call: C,
+}
+
+impl<S: Stream, P: Calls<S>, C: OneCall<S>> Calls<S> for Then<P, C> {
+    ghost calls = { λ c. C.OneCall.call c.call ∷ P.Calls.calls c.before };
+
+    fn play(self, b: &mut KeyBox<S>) {
+        let Then { before, call } = self;
+        before.play(b);
+        call.make(b);
+    }
+}
+
+// A key is set.
+#[derive(Drop)]
+pub struct SetKey<'a> {
     pub slot: u8,
     pub key: &'a [u8],
 }
 
-impl<'a, S: Stream, P: Calls<S>> Calls<S> for SetKey<'a, P> {
-    ghost calls = { λ c. setting c.slot c.key.now ∷ P.Calls.calls c.before };
+impl<'a, S: Stream> OneCall<S> for SetKey<'a> {
+    ghost call = { λ c. setting c.slot c.key.now };
 
-    fn play(self, b: &mut KeyBox<S>) {
-        let SetKey { before, slot, key } = self;
-        before.play(b);
-        let _ = b.set_key(slot, key);
+    fn make(self, b: &mut KeyBox<S>) {
+        let _ = b.set_key(self.slot, self.key);
     }
 }
 
-// A slot is cleared after the calls `before`.
+// A slot is cleared.
 #[derive(Drop)]
-pub struct Clear<P> {
-    pub before: P,
+pub struct Clear {
     pub slot: u8,
 }
 
-impl<S: Stream, P: Calls<S>> Calls<S> for Clear<P> {
-    ghost calls = { λ c. clearing c.slot ∷ P.Calls.calls c.before };
+impl<S: Stream> OneCall<S> for Clear {
+    ghost call = { λ c. clearing c.slot };
 
-    fn play(self, b: &mut KeyBox<S>) {
-        let Clear { before, slot } = self;
-        before.play(b);
-        let _ = b.clear(slot);
+    fn make(self, b: &mut KeyBox<S>) {
+        let _ = b.clear(self.slot);
     }
 }
 
-// A slot is asked for its last serial after the calls `before`.
+// A slot is asked for its last serial.
 #[derive(Drop)]
-pub struct Ask<P> {
-    pub before: P,
+pub struct Ask {
     pub slot: u8,
 }
 
-impl<S: Stream, P: Calls<S>> Calls<S> for Ask<P> {
-    ghost calls = { λ c. asking c.slot ∷ P.Calls.calls c.before };
+impl<S: Stream> OneCall<S> for Ask {
+    ghost call = { λ c. asking c.slot };
 
-    fn play(self, b: &mut KeyBox<S>) {
-        let Ask { before, slot } = self;
-        before.play(b);
-        let _ = b.last_serial(slot);
+    fn make(self, b: &mut KeyBox<S>) {
+        let _ = b.last_serial(self.slot);
     }
 }
 
-// A line is given to the box as the kind K, with these buffers, after the calls
-// `before`.
-pub struct OpenLine<'a, K: Kind, P> {
-    pub before: P,
+// A line is given to the box as the kind K, with these buffers.
+pub struct OpenLine<'a, K: Kind> {
     pub line: &'a [u8],
     pub work: Vec<u8>,
     pub places: Vec<K::Item>,
 }
 
-impl<'a, S: Stream, K: Kind, P: Calls<S>> Calls<S> for OpenLine<'a, K, P> {
-    ghost calls = { λ c. opening c.line.now (kind_of K.Kind.tag K.Kind.reading) (vec_len c.work) (vec_len c.places) ∷ P.Calls.calls c.before };
+impl<'a, S: Stream, K: Kind> OneCall<S> for OpenLine<'a, K> {
+    ghost call = { λ c. opening c.line.now (kind_of K.Kind.NUMBER K.Kind.reading) (vec_len c.work) (vec_len c.places) };
 
-    fn play(self, b: &mut KeyBox<S>) {
+    fn make(self, b: &mut KeyBox<S>) {
         let OpenLine {
-            before,
             line,
             mut work,
             mut places,
         } = self;
-        before.play(b);
         let mut tray = Tray::new(&mut places[..]);
         let _ = b.open_line::<K>(line, &mut work[..], &mut tray);
     }
@@ -114,16 +130,15 @@ impl<'a, S: Stream, K: Kind, P: Calls<S>> Calls<S> for OpenLine<'a, K, P> {
 // Makes a new box, plays any calls on it, and gives it one more line: what it
 // answers is by the book of those calls alone.
 pub fn open_after<S: Stream + Drop, K: Kind, P: Calls<S>>(
-    stream: S,
-    strength: Strength,
+    cipher: Cipher<S>,
     before: P,
     line: &[u8],
     work: &mut [u8],
     tray: &mut Tray<'_, K::Item>,
 ) -> Result<usize, Refusal>
-    ensures { OpenLaw (sheet_line (S.Stream.meaning stream) strength) K.Kind.lawful K.Kind.line K.Kind.tag (P.Calls.calls before) line.now (length work.old) tray.old.items.now tray.new.items.now result }
+    ensures { OpenLaw (sheet_line (S.Stream.meaning cipher.stream) cipher.strength) K.Kind.lawful K.Kind.line K.Kind.NUMBER (P.Calls.calls before) line.now (length work.old) tray.old.items.now tray.new.items.now result }
 {
-    let mut b = KeyBox::new(stream, strength);
+    let mut b = KeyBox::new(cipher);
     before.play(&mut b);
     b.open_line::<K>(line, work, tray)
 }

@@ -4,13 +4,15 @@
 
 mod calls;
 
-ghost use Rattle.std.specs.Prelude.{◌≡◌, ℕ, ◌≤◌, ◌&&◌, List, [], ◌∷◌, length, slice_index_or, replicate, is_ok, if◌then◌else◌, Some, MatchResult};
+ghost use Rattle.std.specs.Prelude.{◌≡◌, ℕ, ◌≤◌, ◌&&◌, List, [], ◌∷◌, length, replicate, is_ok, if◌then◌else◌, Some, IfErr, MatchResult};
+ghost use Rattle.refusal.specs.declared.Refusal.TheVariants.{WrongSiv};
 ghost use Rattle.hash.specs.Strength.{siv_length};
 ghost use Rattle.hs1.specs.Seal.{opened};
 ghost use Rattle.hs1.specs.Calls.{OpenedThere};
-ghost use Rattle.sealed.specs.Line.{header_of};
-ghost use Rattle.sealed.specs.Sheet.{ReadFrom, parts_of, ReadsSealed};
-ghost use Rattle.book.specs.Keys.{bytes_of, key_of, empty};
+ghost use Rattle.sealed.specs.Line.{header_of, sealed_line};
+ghost use Rattle.sealed.specs.Sheet.{line_of, parts_of, ReadsSealed};
+ghost use Rattle.kinds.specs.Held.{Recounts};
+ghost use Rattle.book.specs.Keys.{bytes_of, key_of, last_of, empty, slot_at, with_last};
 ghost use Rattle.book.specs.Answers.{set_checks, slot_check, answer as answer_of, Asked};
 ghost use Rattle.book.specs.Book.{Call, Sealing, setting, clearing, asking, opening, kind_of, hits, good_key};
 ghost use Rattle.book.specs.Law.{OpenLaw};
@@ -18,88 +20,84 @@ ghost use Rattle.book.specs.Stands.{Stands, Noted};
 ghost use Rattle.sheet.specs.Sheet.{nonce_of, sheet_line};
 ghost use Rattle.keybox.specs.Opening.{first_checks, sheet_text, Answered, LineAnswered, SlotsAfter};
 
-use book::{Key, Slot, Table};
-pub use calls::{Ask, Calls, Clear, Nothing, OpenLine, SetKey, open_after};
-use hash::Strength;
+use book::{Held, Key, Table};
+pub use calls::{Ask, Calls, Clear, Nothing, OneCall, OpenLine, SetKey, Then, open_after};
+use hs1::{Cipher, Context};
 use kinds::{Kind, Tray, load};
 use refusal::Refusal;
-use sealed::{SealedParts, Siv, Unchecked, Wiped};
+use sealed::{Label, SealedParts, Unchecked, Wiped};
 use sheet::nonce;
 use stream::Stream;
 
-// Unmasks a sheet's text where it stands, and says whether the SIV is right;
-// zeros are left where it is not.
+// Unmasks a sheet's text where it stands; refused exactly if the SIV is wrong,
+// and then zeros are left there.
 fn unmask<S: Stream>(
-    stream: &S,
-    strength: Strength,
+    cipher: &Cipher<S>,
     key: &Key,
     serial: u32,
     header: &[u8],
     siv: &[u8],
     text: &mut [u8],
-) -> bool
-    ensures { length header.now ≤ 46 → length siv.now ≡ siv_length strength → length text.old ≤ 16384 → OpenedThere (opened (S.Stream.meaning stream.now) strength (bytes_of key.now) (nonce_of serial) header.now siv.now text.old) (length text.old) text.new result }
+) -> Result<(), Refusal>
+    requires { (length header.now ≤ 46) × (length siv.now ≡ siv_length cipher.now.strength) × (length text.old ≤ 16384) }
+    ensures there { OpenedThere (opened (S.Stream.meaning cipher.now.stream) cipher.now.strength (bytes_of key.now) (nonce_of serial) header.now siv.now text.old) (length text.old) text.new (is_ok result) }
+    ensures why { IfErr result (λ w. w ≡ WrongSiv) }
 {
-    let nonce = nonce(serial);
-    hs1::open_in_place(stream, strength, key.as_bytes(), &nonce, header, siv, text).is_ok()
+    let context = Context {
+        key: key.as_bytes(),
+        nonce: &nonce(serial),
+        header,
+    };
+    cipher.open_in_place(context, siv, text)
 }
 
 // Opens a sheet by a slot of the box into a tray: the checks in their order,
 // each refusal leaving the tray as it was.
 fn judge<S: Stream, K: Kind>(
-    stream: &S,
-    strength: Strength,
-    slot: Slot,
+    cipher: &Cipher<S>,
+    slot: Option<Held>,
     sheet: Unchecked<'_>,
     work: &mut [u8],
     tray: &mut Tray<'_, K::Item>,
 ) -> Result<usize, Refusal>
-    ensures answer { (l : List ℕ) → ReadFrom l sheet.entry → Answered (first_checks strength slot K.Kind.tag (length work.old) (parts_of sheet.entry)) (sheet_text (S.Stream.meaning stream.now) strength slot (parts_of sheet.entry)) K.Kind.reading tray.old.items.now tray.new.items.now result }
-    ensures count { MatchResult result (λ n. tray.new.count ≡ n) (λ _. tray.new.count ≡ tray.old.count) }
-    ensures lent { tray.new.items.ghost_name ≡ tray.old.items.ghost_name }
+    ensures answer { Answered (first_checks cipher.now.strength slot K.Kind.NUMBER (length work.old) (parts_of sheet.entry)) (sheet_text (S.Stream.meaning cipher.now.stream) cipher.now.strength slot (parts_of sheet.entry)) K.Kind.reading tray.old.items.now tray.new.items.now result }
+    ensures tray { Recounts tray.old tray.new result }
 {
-    if sheet.kind() != K::its_number() {
+    if sheet.kind() != K::NUMBER {
         return Err(Refusal::OtherKind);
     }
-    let Some(key) = slot.key else {
-        return Err(Refusal::EmptySlot);
-    };
+    let held = slot.ok_or(Refusal::EmptySlot)?;
     let serial = sheet.serial();
-    if serial <= slot.last {
+    if serial <= held.last {
         return Err(Refusal::StaleSerial);
     }
     let SealedParts { header, siv, text } = sheet.into_parts();
-    let Siv { bytes, len } = siv;
-    if len != strength.siv_len() {
+    let siv = siv.as_bytes();
+    if siv.len() != cipher.strength.siv_len() {
         return Err(Refusal::SivLength);
     }
     let n = text.decode(work)?;
     let text = &mut work[0..n];
-    if !unmask(stream, strength, &key, serial, header, &bytes[0..len], text) {
-        return Err(Refusal::WrongSiv);
-    }
+    unmask(cipher, &held.key, serial, header, siv, text)?;
     load::<K>(text, tray)
 }
 
 // A box: a stream, a strength, and eight key slots.
 #[derive(Drop)]
 pub struct KeyBox<S: Stream> {
-    stream: S,
-    strength: Strength,
+    cipher: Cipher<S>,
     table: Table,
 }
 
 impl<S: Stream> KeyBox<S> {
     // A box with eight empty slots.
-    pub fn new(stream: S, strength: Strength) -> KeyBox<S>
-        ensures stream { result.stream ≡ stream }
-        ensures strength { result.strength ≡ strength }
-        ensures empty { (s : ℕ) → slice_index_or result.table.slots s empty ≡ empty }
+    pub fn new(cipher: Cipher<S>) -> KeyBox<S>
+        ensures cipher { result.cipher ≡ cipher }
+        ensures empty { (s : ℕ) → slot_at result.table.slots s ≡ empty }
         ensures stands { (seal : Sealing) → Stands seal result.table.slots [] }
     {
         KeyBox {
-            stream,
-            strength,
+            cipher,
             table: Table::new(),
         }
     }
@@ -107,9 +105,9 @@ impl<S: Stream> KeyBox<S> {
     // Puts a key into a slot, which then has opened nothing. Checks: 6, 7.
     pub fn set_key(&mut self, slot: u8, key: &[u8]) -> Result<(), Refusal>
         ensures answer { result ≡ answer_of (set_checks slot key.now) }
-        ensures kept { (self.new.stream ≡ self.old.stream) × (self.new.strength ≡ self.old.strength) }
-        ensures key { (s : ℕ) → key_of (slice_index_or self.new.table.slots s empty) ≡ (if good_key key.now && hits slot s then Some key.now else key_of (slice_index_or self.old.table.slots s empty)) }
-        ensures last { (s : ℕ) → (slice_index_or self.new.table.slots s empty).last ≡ (if good_key key.now && hits slot s then 0 else (slice_index_or self.old.table.slots s empty).last) }
+        ensures kept { self.new.cipher ≡ self.old.cipher }
+        ensures key { (s : ℕ) → key_of (slot_at self.new.table.slots s) ≡ (if good_key key.now && hits slot s then Some key.now else key_of (slot_at self.old.table.slots s)) }
+        ensures last { (s : ℕ) → last_of (slot_at self.new.table.slots s) ≡ (if good_key key.now && hits slot s then 0 else last_of (slot_at self.old.table.slots s)) }
         ensures noted { (seal : Sealing) → Noted seal self.old.table.slots self.new.table.slots (setting slot key.now ∷ []) }
     {
         self.table.set_key(slot, key)
@@ -118,8 +116,8 @@ impl<S: Stream> KeyBox<S> {
     // Empties a slot. Check: 6.
     pub fn clear(&mut self, slot: u8) -> Result<(), Refusal>
         ensures answer { result ≡ answer_of (slot_check slot) }
-        ensures kept { (self.new.stream ≡ self.old.stream) × (self.new.strength ≡ self.old.strength) }
-        ensures after { (s : ℕ) → slice_index_or self.new.table.slots s empty ≡ (if hits slot s then empty else slice_index_or self.old.table.slots s empty) }
+        ensures kept { self.new.cipher ≡ self.old.cipher }
+        ensures after { (s : ℕ) → slot_at self.new.table.slots s ≡ (if hits slot s then empty else slot_at self.old.table.slots s) }
         ensures noted { (seal : Sealing) → Noted seal self.old.table.slots self.new.table.slots (clearing slot ∷ []) }
     {
         self.table.clear(slot)
@@ -127,7 +125,7 @@ impl<S: Stream> KeyBox<S> {
 
     // The last serial opened from a slot; nothing if it has no key. Check: 6.
     pub fn last_serial(&self, slot: u8) -> Result<Option<u32>, Refusal>
-        ensures answer { Asked slot (slice_index_or self.now.table.slots slot empty) result }
+        ensures answer { Asked slot (slot_at self.now.table.slots slot) result }
         ensures noted { (seal : Sealing) → Noted seal self.now.table.slots self.now.table.slots (asking slot ∷ []) }
     {
         self.table.last_serial(slot)
@@ -136,44 +134,32 @@ impl<S: Stream> KeyBox<S> {
     // Opens a sheet as the kind K into the tray, and uses the sheet up. Checks:
     // 12, 21, 22, 16, 1, 13, 14, 2. The items replace what the tray held, the
     // serial becomes the slot's last, the count is answered. A refusal leaves
-    // box and tray as they were. The work buffer is zeros on every way out.
+    // box and tray as they were. The work buffer is zeros on every way out. It and
+    // the tray are lent apart, and used apart.
     pub fn open<K: Kind>(
         &mut self,
         sheet: Unchecked<'_>,
         work: &mut [u8],
         tray: &mut Tray<'_, K::Item>,
     ) -> Result<usize, Refusal>
-        ensures kept { (self.new.stream ≡ self.old.stream) × (self.new.strength ≡ self.old.strength) }
-        ensures answer { (l : List ℕ) → ReadFrom l sheet.entry → Answered (first_checks self.old.strength (slice_index_or self.old.table.slots sheet.entry.slot empty) K.Kind.tag (length work.old) (parts_of sheet.entry)) (sheet_text (S.Stream.meaning self.old.stream) self.old.strength (slice_index_or self.old.table.slots sheet.entry.slot empty) (parts_of sheet.entry)) K.Kind.reading tray.old.items.now tray.new.items.now result }
-        ensures slots { (s : ℕ) → slice_index_or self.new.table.slots s empty ≡ (if is_ok result && hits sheet.entry.slot s then (record { key = (slice_index_or self.old.table.slots sheet.entry.slot empty).key; last = sheet.entry.serial }) else slice_index_or self.old.table.slots s empty) }
-        ensures count { MatchResult result (λ n. tray.new.count ≡ n) (λ _. tray.new.count ≡ tray.old.count) }
-        ensures lent { tray.new.items.ghost_name ≡ tray.old.items.ghost_name }
+        ensures kept { self.new.cipher ≡ self.old.cipher }
+        ensures answer { Answered (first_checks self.old.cipher.strength (slot_at self.old.table.slots sheet.entry.label.slot) K.Kind.NUMBER (length work.old) (parts_of sheet.entry)) (sheet_text (S.Stream.meaning self.old.cipher.stream) self.old.cipher.strength (slot_at self.old.table.slots sheet.entry.label.slot) (parts_of sheet.entry)) K.Kind.reading tray.old.items.now tray.new.items.now result }
+        ensures slots { (s : ℕ) → slot_at self.new.table.slots s ≡ (if is_ok result && hits sheet.entry.label.slot s then with_last (slot_at self.old.table.slots sheet.entry.label.slot) sheet.entry.label.serial else slot_at self.old.table.slots s) }
+        ensures tray { Recounts tray.old tray.new result }
         ensures wiped { work.new ≡ replicate (length work.old) 0 }
-        ensures noted { (l : List ℕ) → ReadFrom l sheet.entry → Noted (sheet_line (S.Stream.meaning self.old.stream) self.old.strength) self.old.table.slots self.new.table.slots (opening l (kind_of K.Kind.tag K.Kind.reading) (length work.old) (length tray.old.items.now) ∷ []) }
-        ensures law { (l : List ℕ) → ReadFrom l sheet.entry → (h : List Call) → Stands (sheet_line (S.Stream.meaning self.old.stream) self.old.strength) self.old.table.slots h → OpenLaw (sheet_line (S.Stream.meaning self.old.stream) self.old.strength) K.Kind.lawful K.Kind.line K.Kind.tag h l (length work.old) tray.old.items.now tray.new.items.now result }
+        ensures noted { Noted (sheet_line (S.Stream.meaning self.old.cipher.stream) self.old.cipher.strength) self.old.table.slots self.new.table.slots (opening (line_of sheet.entry) (kind_of K.Kind.NUMBER K.Kind.reading) (length work.old) (length tray.old.items.now) ∷ []) }
+        ensures law { (h : List Call) → Stands (sheet_line (S.Stream.meaning self.old.cipher.stream) self.old.cipher.strength) self.old.table.slots h → OpenLaw (sheet_line (S.Stream.meaning self.old.cipher.stream) self.old.cipher.strength) K.Kind.lawful K.Kind.line K.Kind.NUMBER h (line_of sheet.entry) (length work.old) tray.old.items.now tray.new.items.now result }
     {
         let guard = Wiped { work };
-        let number = sheet.slot();
-        let serial = sheet.serial();
-        let slot = self.table.at(number);
-        match judge::<S, K>(
-            &self.stream,
-            self.strength,
-            slot,
-            sheet,
-            &mut guard.work[..],
-            tray,
-        ) {
-            Ok(count) => {
-                let next = Slot {
-                    key: slot.key,
-                    last: serial,
-                };
-                self.table.put(number, next);
-                Ok(count)
-            }
-            Err(why) => Err(why),
-        }
+        let Label { slot, serial, .. } = sheet.label();
+        let held = self.table.at(slot);
+        let count = judge::<S, K>(&self.cipher, held, sheet, &mut guard.work[..], tray)?;
+        let next = held.map(|held| Held {
+            last: serial,
+            ..held
+        });
+        self.table.put(slot, next);
+        Ok(count)
     }
 
     // Reads any bytes as a sealed line (11) and, if they are one, opens the
@@ -184,21 +170,16 @@ impl<S: Stream> KeyBox<S> {
         work: &mut [u8],
         tray: &mut Tray<'_, K::Item>,
     ) -> Result<usize, Refusal>
-        ensures kept { (self.new.stream ≡ self.old.stream) × (self.new.strength ≡ self.old.strength) }
-        ensures answer { LineAnswered (S.Stream.meaning self.old.stream) self.old.strength self.old.table.slots K.Kind.tag (length work.old) K.Kind.reading line.now tray.old.items.now tray.new.items.now result }
+        ensures kept { self.new.cipher ≡ self.old.cipher }
+        ensures answer { LineAnswered (S.Stream.meaning self.old.cipher.stream) self.old.cipher.strength self.old.table.slots K.Kind.NUMBER (length work.old) K.Kind.reading line.now tray.old.items.now tray.new.items.now result }
         ensures slots { SlotsAfter line.now self.old.table.slots self.new.table.slots (is_ok result) }
-        ensures count { MatchResult result (λ n. tray.new.count ≡ n) (λ _. tray.new.count ≡ tray.old.count) }
-        ensures lent { tray.new.items.ghost_name ≡ tray.old.items.ghost_name }
+        ensures tray { Recounts tray.old tray.new result }
         ensures wiped { work.new ≡ replicate (length work.old) 0 }
-        ensures noted { Noted (sheet_line (S.Stream.meaning self.old.stream) self.old.strength) self.old.table.slots self.new.table.slots (opening line.now (kind_of K.Kind.tag K.Kind.reading) (length work.old) (length tray.old.items.now) ∷ []) }
-        ensures law { (h : List Call) → Stands (sheet_line (S.Stream.meaning self.old.stream) self.old.strength) self.old.table.slots h → OpenLaw (sheet_line (S.Stream.meaning self.old.stream) self.old.strength) K.Kind.lawful K.Kind.line K.Kind.tag h line.now (length work.old) tray.old.items.now tray.new.items.now result }
+        ensures noted { Noted (sheet_line (S.Stream.meaning self.old.cipher.stream) self.old.cipher.strength) self.old.table.slots self.new.table.slots (opening line.now (kind_of K.Kind.NUMBER K.Kind.reading) (length work.old) (length tray.old.items.now) ∷ []) }
+        ensures law { (h : List Call) → Stands (sheet_line (S.Stream.meaning self.old.cipher.stream) self.old.cipher.strength) self.old.table.slots h → OpenLaw (sheet_line (S.Stream.meaning self.old.cipher.stream) self.old.cipher.strength) K.Kind.lawful K.Kind.line K.Kind.NUMBER h line.now (length work.old) tray.old.items.now tray.new.items.now result }
     {
-        match Unchecked::read(line) {
-            Ok(sheet) => self.open::<K>(sheet, work, tray),
-            Err(why) => {
-                let _guard = Wiped { work };
-                Err(why)
-            }
-        }
+        let wiped = Wiped { work };
+        let sheet = Unchecked::read(line)?;
+        self.open::<K>(sheet, &mut wiped.work[..], tray)
     }
 }

@@ -1,9 +1,10 @@
 -- What sealing answers, from its steps, and what follows from the answer.
 use Rattle.std.proofs.Common.{◌≡◌, ℕ, ◌<◌, ◌≤◌, Bool, true, cond, List, length, take, drop, Some, None, Ok, Option, Result, sym, refl, ap, ◌∙◌, subst, inr, ⊎_elim, arith}
+use Rattle.std.proofs.lemmas.Grind.{common_steps}
 use Rattle.std.proofs.lemmas.List.{take_at}
 use Rattle.std.proofs.lemmas.Bool.{cases_lt, lt-ltb, le-ltb}
 use Rattle.refusal.specs.declared.Refusal.{Refusal}
-use Rattle.refusal.specs.declared.Refusal.TheVariants.{ShortOutput, KeyLength, NoSlot}
+use Rattle.refusal.specs.declared.Refusal.TheVariants.{ShortOutput}
 use Rattle.hash.specs.declared.Strength.{Strength}
 use Rattle.stream.specs.Stream.{StreamOf}
 use Rattle.shape.specs.Form.{WellShaped}
@@ -21,15 +22,10 @@ use Rattle.sheet.proofs.Shapes.{text_bytes}
 
 -- the checks of slot and key
 pub checks_pass : (slot : ℕ) (key : List ℕ) → slot < slot_count → good_key key ≡ true → set_checks slot key ≡ None
-checks_pass slot key h k =
-    ap (λ b. cond b (cond (good_key key) None (Some KeyLength)) (Some NoSlot)) (lt-ltb slot slot_count h)
-    ∙ ap (λ b. cond b None (Some KeyLength)) k
+checks_pass slot key h k = grind (arith, common_steps)
 
 pub passed_slot : (slot : ℕ) (key : List ℕ) → set_checks slot key ≡ None → slot < slot_count
-passed_slot slot key e =
-    ⊎_elim (λ h. h)
-    (λ h. absurd (let f : set_checks slot key ≡ Some NoSlot = ap (λ b. cond b (cond (good_key key) None (Some KeyLength)) (Some NoSlot)) (le-ltb slot slot_count h) in let z : ◌≡◌ {A = ℕ} 0 1 = cc in omega arith))
-    (cases_lt slot slot_count)
+passed_slot slot key e = grind (arith, common_steps)
 
 module _ {X : Type 0} (lawful : X → Bool) (line : X → List ℕ) (xs : List X) where
   module _ (l : List ℕ) (work : ℕ) (before after : List ℕ) (r : Result ℕ Refusal) where
@@ -56,6 +52,11 @@ module _ {X : Type 0} (lawful : X → Bool) (line : X → List ℕ) (xs : List X
   sealed_ok : (o : Option Refusal) (l : List ℕ) (work : ℕ) (before after : List ℕ) (n : ℕ) → SealedAs lawful line o xs l work before after (Ok n) → (o ≡ None) × Sheet lawful line xs × (take n after ≡ l)
   sealed_ok (Some why) l work before after n a = absurd (let e = a.0 in let z : ◌≡◌ {A = ℕ} 0 1 = cc in omega arith)
   sealed_ok None l work before after n a = (refl, a.0, ap (take n) a.4 ∙ take_at l (drop n before) n (sym a.2))
+
+  -- the length that is answered is that of the line
+  pub sealed_length : (o : Option Refusal) (l : List ℕ) (work : ℕ) (before after : List ℕ) (n : ℕ) → SealedAs lawful line o xs l work before after (Ok n) → SealedAs lawful line o xs l work before after (Ok (length l))
+  sealed_length (Some why) l work before after n a = absurd (let e = a.0 in let z : ◌≡◌ {A = ℕ} 0 1 = cc in omega arith)
+  sealed_length None l work before after n a = subst (λ m. SealedAs lawful line None xs l work before after (Ok m)) a.2 a
 
   module _ (f : StreamOf) (bytes : (seed nonce : List ℕ) (place : ℕ) → f.byte seed nonce place < 256) (s : Strength) (number : ℕ)
       (numbered : (1 ≤ number) × (number ≤ 9)) (shaped : (x : X) → lawful x ≡ true → WellShaped (line x))

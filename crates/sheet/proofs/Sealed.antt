@@ -1,13 +1,14 @@
 -- Sealing a text where all lengths are right.
-use Rattle.std.proofs.Common.{◌≡◌, ℕ, ◌-◌, ◌<◌, ◌≤◌, Bool, true, false, cond, not, ◌||◌, eqb, ltb, List, ◌++◌, length, take, drop, replicate, Some, None, Ok, Err, Option, Result, sym, refl, ap, ◌∙◌, subst, arith}
+use Rattle.std.proofs.Common.{◌≡◌, ℕ, ◌<◌, ◌≤◌, true, cond, List, ◌++◌, length, take, drop, replicate, Some, None, Ok, Err, Option, Result, sym, ap, ◌∙◌, subst, arith}
+use Rattle.std.proofs.lemmas.Grind.{common_steps}
 use Rattle.std.proofs.lemmas.List.{drop_all, append-nil, take_at}
-use Rattle.std.proofs.lemmas.Bool.{true≢false, le-ltb, le-leb, eq-eqb, ne_eqb}
+use Rattle.std.proofs.lemmas.Bool.{le-ltb, le-leb}
 use Rattle.refusal.specs.declared.Refusal.{Refusal}
-use Rattle.refusal.specs.declared.Refusal.TheVariants.{KeyLength, NonceLength, TooLong, NoSlot, OtherKind, StaleSerial, LargeSheet, SivLength, ShortOutput}
+use Rattle.refusal.specs.declared.Refusal.TheVariants.{ShortOutput}
 use Rattle.hash.specs.declared.Strength.{Strength}
 use Rattle.hash.specs.Strength as strength
 use Rattle.stream.specs.Stream.{StreamOf}
-use Rattle.hs1.specs.Checks.{refuse_if, or_else, input_checks, put}
+use Rattle.hs1.specs.Checks.{input_checks, put}
 use Rattle.hs1.specs.Calls as hs1
 use Rattle.hs1.specs.Seal.{siv, ciphertext}
 use Rattle.sealed.specs.Limits.{siv_length, text_length}
@@ -17,39 +18,20 @@ use Rattle.sealed.proofs.Lengths.{longest_header_is}
 use Rattle.sheet.specs.Sheet.{nonce_of, sealed_parts, sheet_line}
 use Rattle.sheet.proofs.Lines.{length_siv, length_ciphertext, siv_fits}
 
-neither : (a b : Bool) → a ≡ false → b ≡ false → (a || b) ≡ false
-neither true b ea eb = ea
-neither false b ea eb = eb
-
--- three tests that all fail refuse nothing
-three_pass : (a b c : Bool) (x y z : Refusal) → a ≡ false → b ≡ false → c ≡ false → cond a (Some x) (cond b (Some y) (cond c (Some z) None)) ≡ None
-three_pass true b c x y z ea eb ec = absurd (true≢false ea)
-three_pass false true c x y z ea eb ec = absurd (true≢false eb)
-three_pass false false true x y z ea eb ec = absurd (true≢false ec)
-three_pass false false false x y z ea eb ec = refl
-
-or_three : (a b c : Bool) (x y z : Refusal) → or_else (refuse_if a x) (or_else (refuse_if b y) (refuse_if c z)) ≡ cond a (Some x) (cond b (Some y) (cond c (Some z) None))
-or_three true b c x y z = refl
-or_three false true c x y z = refl
-or_three false false c x y z = refl
-
 -- what sealing and opening check of key, nonce, header and text
 pub inputs_pass : (key nonce header text : ℕ) → 0 < key → key ≤ 32 → nonce ≡ 12 → header ≤ 46 → text ≤ 16384 → input_checks key nonce header text ≡ None
-inputs_pass key nonce header text k0 k n h t =
-    or_three (eqb key 0 || ltb 32 key) (not (eqb nonce 12)) (ltb 65536 header || ltb 65536 text) KeyLength NonceLength TooLong
-    ∙ three_pass _ _ _ KeyLength NonceLength TooLong
-    (neither _ _ (ne_eqb key 0 (λ z. omega arith)) (le-ltb 32 key k))
-    (ap not (eq-eqb nonce 12 n))
-    (neither _ _ (le-ltb 65536 header (omega arith)) (le-ltb 65536 text (omega arith)))
+inputs_pass key nonce header text k0 k n h t = grind (arith, common_steps)
 
 pub header_pass : (slot kind serial : ℕ) → LawfulHeader slot kind serial → header_refusal slot kind serial ≡ None
 header_pass slot kind serial h =
-    three_pass _ _ _ NoSlot OtherKind StaleSerial (le-ltb 7 slot h.slot_last)
-    (neither _ _ (le-ltb kind 1 h.kind_first) (le-ltb 9 kind h.kind_last))
-    (le-ltb serial 1 h.serial_first)
+    let slot_last = h.slot_last in
+    let kind_first = h.kind_first in
+    let kind_last = h.kind_last in
+    let serial_first = h.serial_first in
+    grind (arith, common_steps)
 
 lengths_pass : (siv text : ℕ) → siv_length siv ≡ true → text_length text ≡ true → length_refusal None siv text ≡ None
-lengths_pass siv text a b = ap (λ x. cond x (cond (text_length text) None (Some LargeSheet)) (Some SivLength)) a ∙ ap (λ x. cond x None (Some LargeSheet)) b
+lengths_pass siv text a b = grind (arith, common_steps)
 
 -- a writer that checks nothing but the room, and has it
 roomy : (w before after : List ℕ) (q : Option Refusal) (r : Result ℕ Refusal) → q ≡ None → length w ≤ length before → Writes (room_refusal q (length w) (length before)) w before after r → (r ≡ Ok (length w)) × (after ≡ w ++ drop (length w) before)
@@ -59,10 +41,8 @@ roomy w before after q r e l h =
     (g.0, g.2)
 
 -- the front of a buffer, where a part was written
-pub front : (w rest after : List ℕ) (n : ℕ) → n ≡ length w → after ≡ w ++ rest → take (n - 0) after ≡ w
-front w rest after n e a =
-    let m : n - 0 ≡ length w = omega arith in
-    ap (λ k. take k after) m ∙ ap (take (length w)) a ∙ take_at w rest (length w) refl
+pub front : (w rest after : List ℕ) (n : ℕ) → n ≡ length w → after ≡ w ++ rest → take n after ≡ w
+front w rest after n e a = ap (take n) a ∙ take_at w rest n (sym e)
 
 -- the buffer for a header
 abbrev blank : List ℕ
@@ -76,7 +56,7 @@ module _ (slot kind serial : ℕ) (head : LawfulHeader slot kind serial) (after 
   pub never_refused : (why : Refusal) → r ≡ Err why → ⊥
   never_refused why e = let h = there.0 in let z : ◌≡◌ {A = ℕ} 0 1 = cc in omega arith
 
-  pub header_there : (n : ℕ) → r ≡ Ok n → take (n - 0) after ≡ header_of slot kind serial
+  pub header_there : (n : ℕ) → r ≡ Ok n → take n after ≡ header_of slot kind serial
   header_there n e =
       let h = there.0 in
       let m : n ≡ length (header_of slot kind serial) = cc in
@@ -97,7 +77,7 @@ module _ (f : StreamOf) (bytes : (seed nonce : List ℕ) (place : ℕ) → f.byt
     cipher_is : ciphertext f s key nonce part text ≡ ciphertext f s key (nonce_of serial) header text
     cipher_is = ap (λ x. ciphertext f s key x part text) nonce_is ∙ ap (λ x. ciphertext f s key (nonce_of serial) x text) part_is
 
-    siv_there : (n : ℕ) → n ≡ strength.siv_length s → take (n - 0) siv_after ≡ siv f s key (nonce_of serial) header text
+    siv_there : (n : ℕ) → n ≡ strength.siv_length s → take n siv_after ≡ siv f s key (nonce_of serial) header text
     siv_there n e =
         front (siv f s key nonce part text) _ siv_after n (e ∙ sym (length_siv f bytes s key nonce part text))
         (sealed.siv_is ∙ ap (λ c. put c (siv f s key nonce part text) was) checks_none)
@@ -111,7 +91,7 @@ module _ (f : StreamOf) (bytes : (seed nonce : List ℕ) (place : ℕ) → f.byt
         ∙ ap (λ x. c ++ x) (drop_all (length c) text (omega arith)) ∙ append-nil c
         ∙ cipher_is
 
-    pub line_written : (n : ℕ) (before after : List ℕ) (r : Result ℕ Refusal) → n ≡ strength.siv_length s → WritesLine (parts_in slot kind serial (take (n - 0) siv_after) text_after) before after r → Writes (room_refusal None (length (sheet_line f s slot kind serial key text)) (length before)) (sheet_line f s slot kind serial key text) before after r
+    pub line_written : (n : ℕ) (before after : List ℕ) (r : Result ℕ Refusal) → n ≡ strength.siv_length s → WritesLine (parts_in slot kind serial (take n siv_after) text_after) before after r → Writes (room_refusal None (length (sheet_line f s slot kind serial key text)) (length before)) (sheet_line f s slot kind serial key text) before after r
     unfolding sheet_line
     line_written n before after r e w =
         let p = sealed_parts f s slot kind serial key text in

@@ -1,6 +1,6 @@
 //! Sealing the items of a sheet.
 
-ghost use Rattle.std.specs.Prelude.{◌≡◌, ℕ, ◌<◌, ◌≤◌, cond, length, take, replicate, IfOk, IfErr, None, MatchResult};
+ghost use Rattle.std.specs.Prelude.{◌≡◌, ℕ, ◌<◌, ◌≤◌, length, take, replicate, IfOk, IfErr, None};
 ghost use Rattle.book.specs.Answers.{set_checks};
 ghost use Rattle.book.specs.Keys.{bytes_of};
 ghost use Rattle.book.specs.Law.{Seals};
@@ -9,17 +9,23 @@ ghost use Rattle.sealed.specs.Line.{Lawful, LawfulHeader, Parts, SealedLine, sea
 ghost use Rattle.sealed.specs.Writes.{Writes, room_refusal};
 ghost use Rattle.sheet.specs.Sheet.{sheet_line};
 ghost use Rattle.sheet.specs.Sealing.{OneList, ReadsAs, SealedAs, TextWritten};
-ghost use Rattle.sheet.specs.Refused.{refusal_of};
+ghost use Rattle.sheet.specs.Refused.{read_back_of, refusal_of};
 
 use crate::nonce;
 use book::{Key, SLOTS};
-use hash::Strength;
-use hs1::seal_in_place;
+use hs1::{Cipher, Context};
 use kinds::{Kind, write_text};
 use refusal::Refusal;
 use roll::Ticket;
-use sealed::{LONGEST_HEADER, LONGEST_SIV, Unchecked, Wiped, write_header, write_line};
+use sealed::{LONGEST_HEADER, LONGEST_SIV, Label, Unchecked, Wiped};
 use stream::Stream;
+
+// Whom a sheet is for: a slot of the box, and the key that stands there.
+#[derive(Clone, Copy)]
+pub struct Recipient<'a> {
+    pub slot: u8,
+    pub key: &'a [u8],
+}
 
 // A sealing that was refused: why, and the ticket, which is not used up.
 pub struct Unsealed {
@@ -44,77 +50,62 @@ impl Unsealed {
 fn write_work<K: Kind>(items: &[K::Item], work: &mut [u8]) -> Result<usize, Refusal>
     ensures { TextWritten K.Kind.lawful K.Kind.line items.now work.old work.new result }
 {
-    match write_text::<K>(items, work) {
-        Ok(len) => Ok(len),
-        Err(Refusal::ShortOutput) => Err(Refusal::ShortWork),
-        Err(why) => Err(why),
-    }
+    write_text::<K>(items, work).map_err(|why| match why {
+        Refusal::ShortOutput => Refusal::ShortWork,
+        other => other,
+    })
 }
 
 // Masks a text where it stands and writes its sealed line; refused exactly if
 // the output is shorter than the line.
 fn seal_text<S: Stream>(
-    stream: &S,
-    strength: Strength,
-    slot: u8,
-    kind: u8,
-    serial: u32,
+    cipher: &Cipher<S>,
+    label: Label,
     key: &Key,
     text: &mut [u8],
     out: &mut [u8],
 ) -> Result<usize, Refusal>
-    requires { (LawfulHeader slot kind serial) × (length text.old ≤ 16384) }
-    ensures { Writes (room_refusal None (length (sheet_line (S.Stream.meaning stream.now) strength slot kind serial (bytes_of key.now) text.old)) (length out.old)) (sheet_line (S.Stream.meaning stream.now) strength slot kind serial (bytes_of key.now) text.old) out.old out.new result }
+    requires { (LawfulHeader label.slot label.kind label.serial) × (length text.old ≤ 16384) }
+    ensures { let line = sheet_line (S.Stream.meaning cipher.now.stream) cipher.now.strength label.slot label.kind label.serial (bytes_of key.now) text.old in Writes (room_refusal None (length line) (length out.old)) line out.old out.new result }
 {
     let mut header = [0; LONGEST_HEADER];
-    let len = write_header(slot, kind, serial, &mut header)?;
+    let len = label.write_header(&mut header)?;
+    let nonce = nonce(label.serial);
+    let context = Context {
+        key: key.as_bytes(),
+        nonce: &nonce,
+        header: &header[..len],
+    };
     let mut siv = [0; LONGEST_SIV];
-    let nonce = nonce(serial);
-    seal_in_place(
-        stream,
-        strength,
-        key.as_bytes(),
-        &nonce,
-        &header[0..len],
-        text,
-        &mut siv,
-    )?;
-    write_line(slot, kind, serial, &siv[0..strength.siv_len()], text, out)
+    cipher.seal_in_place(context, text, &mut siv)?;
+    label.write_line(&siv[..cipher.strength.siv_len()], text, out)
 }
 
 // Seals items with a serial: the checks in their order, each refusal leaving
 // the output as it was.
 fn seal_items<S: Stream, K: Kind>(
-    stream: &S,
-    strength: Strength,
-    slot: u8,
-    key: &[u8],
+    cipher: &Cipher<S>,
+    to: Recipient<'_>,
     serial: u32,
     items: &[K::Item],
     work: &mut [u8],
     out: &mut [u8],
 ) -> Result<usize, Refusal>
     requires { 0 < serial }
-    ensures { SealedAs K.Kind.lawful K.Kind.line (set_checks slot key.now) items.now (sheet_line (S.Stream.meaning stream.now) strength slot K.Kind.tag serial key.now (text_of K.Kind.line items.now)) (length work.old) out.old out.new result }
+    ensures { SealedAs K.Kind.lawful K.Kind.line (set_checks to.entry.slot to.entry.key.now) items.now (sheet_line (S.Stream.meaning cipher.now.stream) cipher.now.strength to.entry.slot K.Kind.NUMBER serial to.entry.key.now (text_of K.Kind.line items.now)) (length work.old) out.old out.new result }
 {
-    if slot >= SLOTS {
+    // As the box checks a slot, whose check is its own.
+    if to.slot >= SLOTS {
         return Err(Refusal::NoSlot);
     }
-    let Some(key) = Key::new(key) else {
-        return Err(Refusal::KeyLength);
-    };
+    let key = Key::new(to.key).ok_or(Refusal::KeyLength)?;
     let len = write_work::<K>(items, work)?;
-    let kind = K::its_number();
-    seal_text(
-        stream,
-        strength,
-        slot,
-        kind,
+    let label = Label {
+        slot: to.slot,
+        kind: K::NUMBER,
         serial,
-        &key,
-        &mut work[0..len],
-        out,
-    )
+    };
+    seal_text(cipher, label, &key, &mut work[..len], out)
 }
 
 // Seals the items of a sheet for a slot, under a key, with the serial of a
@@ -123,36 +114,26 @@ fn seal_items<S: Stream, K: Kind>(
 // bytes (7), the first unlawful item (9), more than 1,024 items or 16,384 bytes
 // (10), a work buffer shorter than the text (1), an output shorter than the line
 // (4); then the ticket is handed back and `out` stays as it was. The work buffer
-// is zeros on every way out.
+// is zeros on every way out. The two buffers are lent apart, and used apart.
 pub fn seal<S: Stream, K: Kind>(
-    stream: &S,
-    strength: Strength,
-    slot: u8,
-    key: &[u8],
+    cipher: &Cipher<S>,
+    to: Recipient<'_>,
     ticket: Ticket,
     items: &[K::Item],
     work: &mut [u8],
     out: &mut [u8],
 ) -> Result<usize, Unsealed>
-    ensures answer { SealedAs K.Kind.lawful K.Kind.line (set_checks slot key.now) items.now (sheet_line (S.Stream.meaning stream.now) strength slot K.Kind.tag ticket.serial key.now (text_of K.Kind.line items.now)) (length work.old) out.old out.new (refusal_of result) }
+    ensures answer { SealedAs K.Kind.lawful K.Kind.line (set_checks to.entry.slot to.entry.key.now) items.now (sheet_line (S.Stream.meaning cipher.now.stream) cipher.now.strength to.entry.slot K.Kind.NUMBER ticket.serial to.entry.key.now (text_of K.Kind.line items.now)) (length work.old) out.old out.new (refusal_of result) }
     ensures back { IfErr result (λ u. u.ticket ≡ ticket) }
     ensures wiped { work.new ≡ replicate (length work.old) 0 }
-    ensures seals { IfOk result (λ n. Seals (sheet_line (S.Stream.meaning stream.now) strength) K.Kind.lawful K.Kind.line K.Kind.tag slot ticket.serial key.now (take n out.new) items.now) }
-    ensures reads { IfOk result (λ n. ReadsAs (take n out.new) slot K.Kind.tag ticket.serial) }
-    ensures one { OneList (sheet_line (S.Stream.meaning stream.now) strength) K.Kind.lawful K.Kind.line K.Kind.tag }
+    ensures seals { IfOk result (λ n. Seals (sheet_line (S.Stream.meaning cipher.now.stream) cipher.now.strength) K.Kind.lawful K.Kind.line K.Kind.NUMBER to.entry.slot ticket.serial to.entry.key.now (take n out.new) items.now) }
+    ensures reads { IfOk result (λ n. ReadsAs (take n out.new) to.entry.slot K.Kind.NUMBER ticket.serial) }
+    ensures one { OneList (sheet_line (S.Stream.meaning cipher.now.stream) cipher.now.strength) K.Kind.lawful K.Kind.line K.Kind.NUMBER }
 {
     let guard = Wiped { work };
     let serial = ticket.serial();
-    match seal_items::<S, K>(
-        stream,
-        strength,
-        slot,
-        key,
-        serial,
-        items,
-        &mut guard.work[..],
-        out,
-    ) {
+    // not `map_err`: no closure may hold a ticket, which is never let go unspent
+    match seal_items::<S, K>(cipher, to, serial, items, &mut guard.work[..], out) {
         Ok(len) => {
             let _used = ticket.spend();
             Ok(len)
@@ -161,33 +142,24 @@ pub fn seal<S: Stream, K: Kind>(
     }
 }
 
-// What a sheet tells before it is opened.
-#[derive(Clone, Copy)]
-pub struct Label {
-    pub slot: u8,
-    pub kind: u8,
-    pub serial: u32,
-}
-
-// Seals the items of a sheet and reads the line back: what the sheet tells is
-// the slot, the kind and the serial that it was sealed with, and only the
-// sealing can refuse.
+// Seals the items of a sheet, as `seal` does, and reads the line back: what the
+// sheet tells is the slot, the kind and the serial that it was sealed with, and
+// only the sealing can refuse.
 pub fn seal_and_read<S: Stream, K: Kind>(
-    stream: &S,
-    strength: Strength,
-    slot: u8,
-    key: &[u8],
+    cipher: &Cipher<S>,
+    to: Recipient<'_>,
     ticket: Ticket,
     items: &[K::Item],
     work: &mut [u8],
     out: &mut [u8],
 ) -> Result<Label, Unsealed>
-    ensures { MatchResult result (λ t. (t.slot ≡ slot) × (t.kind ≡ K.Kind.tag) × (t.serial ≡ ticket.serial)) (λ u. u.ticket ≡ ticket) }
+    ensures answer { let line = sheet_line (S.Stream.meaning cipher.now.stream) cipher.now.strength to.entry.slot K.Kind.NUMBER ticket.serial to.entry.key.now (text_of K.Kind.line items.now) in SealedAs K.Kind.lawful K.Kind.line (set_checks to.entry.slot to.entry.key.now) items.now line (length work.old) out.old out.new (read_back_of (length line) result) }
+    ensures label { IfOk result (λ t. (t.slot ≡ to.entry.slot) × (t.kind ≡ K.Kind.NUMBER) × (t.serial ≡ ticket.serial)) }
+    ensures back { IfErr result (λ u. u.ticket ≡ ticket) }
+    ensures wiped { work.new ≡ replicate (length work.old) 0 }
 {
-    match seal::<S, K>(stream, strength, slot, key, ticket, items, work, out) {
-        Ok(len) => Ok(read_label(&out[0..len])),
-        Err(unsealed) => Err(unsealed),
-    }
+    let len = seal::<S, K>(cipher, to, ticket, items, work, out)?;
+    Ok(read_label(&out[..len]))
 }
 
 // What the sheet tells that is read from a line.
@@ -195,12 +167,6 @@ fn read_label(line: &[u8]) -> Label
     requires { SealedLine line.now }
     ensures { (p : Parts) → Lawful p → line.now ≡ sealed_line p → (result.slot ≡ p.slot) × (result.kind ≡ p.kind) × (result.serial ≡ p.serial) }
 {
-    match Unchecked::read(line) {
-        Ok(sheet) => Label {
-            slot: sheet.slot(),
-            kind: sheet.kind(),
-            serial: sheet.serial(),
-        },
-        Err(_) => unreachable(),
-    }
+    let sheet = Unchecked::read(line).unwrap();
+    sheet.label()
 }

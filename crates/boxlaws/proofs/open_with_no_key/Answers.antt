@@ -1,5 +1,7 @@
-use Rattle.boxlaws.proofs.Opens.{never_opens}
+use Rattle.boxlaws.proofs.Empty.{no_key_answered, no_key_refused}
 use Rattle.boxlaws.proofs.open_with_no_key.Goals as goal
 
 pub returns : goal.returns
-returns g c = never_opens _ g.K.Kind.lawful g.K.Kind.line g.K.Kind.tag _ _ _ _ _ c.open_after.ensures
+returns g c =
+    let answer = no_key_answered _ _ _ g.K.Kind.NUMBER _ g.K.Kind.reading _ _ _ _ c.new-empty.ensures.empty c.open_line.ensures.answer in
+    record { refused = no_key_refused _ _ _ answer; answer = answer }

@@ -6,7 +6,7 @@ use Rattle.console.proofs.opening.names_settings.Goals as goal
 pub returns-in-Ok : goal.returns-in-Ok
 returns-in-Ok c =
     let r = c.in-Ok.ensures.reads in
-    names_decided c.args.line.now (parts_of c.in-Ok.sheet) 2 c.kind.result c.its_number.result r.lawful r.line c.kind.ensures c.its_number.ensures
+    names_decided c.args.line.now (parts_of c.in-Ok.sheet) 2 c.kind.result r.lawful r.line c.kind.ensures
 
 pub returns-in-Err : goal.returns-in-Err
 returns-in-Err c =
