@@ -3,7 +3,8 @@ use Rattle.std.specs.Prelude.{◌≡◌, ℕ, zero, suc, ◌+◌, ◌-◌, ◌*�
 use Rattle.std.proofs.Common.{sym, ap, ◌∙◌, append_assoc, arith}
 use Rattle.std.proofs.lemmas.List.{drop_all, drop-drop, take_more, take_at, drop_at, length-drop, length-take-le, set-append_right}
 use Rattle.stream.proofs.Fours.{drop_four}
-use Rattle.chacha.specs.ChaCha.{words, word_at, serialised}
+use Rattle.chacha.specs.ChaCha.{words, word_at, serialised, mixed, start, byte_at}
+use Rattle.chacha.specs.ChaCha as ChaCha
 
 pub words_from : (xs : List ℕ) (i j : ℕ) → i + 4 ≤ length xs → i + 4 ≡ j → words (drop i xs) ≡ word_at xs i ∷ words (drop j xs)
 words_from xs i j h e = ap words (drop_four xs i h) ∙ ap (λ k. word_at xs i ∷ words (drop k xs)) e
@@ -79,3 +80,8 @@ serialised_byte (w ∷ ws) (suc zero) = omega arith
 serialised_byte (w ∷ ws) (suc (suc zero)) = omega arith
 serialised_byte (w ∷ ws) (suc (suc (suc zero))) = omega arith
 serialised_byte (w ∷ ws) (suc (suc (suc (suc i)))) = serialised_byte ws i
+
+-- what stands in ChaCha's stream are bytes
+pub stream_byte : (doubles : ℕ) (seed nonce : List ℕ) (place : ℕ) → byte_at doubles seed nonce place < 256
+unfolding byte_at ChaCha.block
+stream_byte doubles seed nonce place = serialised_byte (mixed doubles (start seed nonce (place / 64))) (place % 64)

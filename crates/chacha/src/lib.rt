@@ -6,8 +6,7 @@ ghost use Rattle.std.specs.Prelude.{◌≡◌, ℕ, ◌+◌, ◌*◌, ◌/◌, �
 ghost use Rattle.std.specs.Simd.Lanes.{zip2};
 ghost use Rattle.chacha.specs.ChaCha.{line, quarter_round, double_round, mixed, start, serialised, add32, word_at, byte_at};
 ghost use Rattle.chacha.specs.Rounds.{count, chacha_of, Counted, Made};
-ghost use Rattle.chacha.specs.ChaCha as SpecsChaCha;
-ghost use Rattle.chacha.specs.Words.{serialised_byte};
+ghost use Rattle.chacha.specs.Words.{stream_byte};
 ghost use Rattle.std.proofs.Common.{rules};
 
 use refusal::Refusal;
@@ -184,7 +183,7 @@ impl Stream for ChaCha {
 
     ghost counted = { Prim.search rules };
 
-    ghost byted = { unfold byte_at SpecsChaCha.block in λ s seed nonce place. serialised_byte (mixed (count s.rounds / 2) (start seed nonce (place / 64))) (place % 64) };
+    ghost byted = { λ s. stream_byte (count s.rounds / 2) };
 
     fn rounds(&self) -> u8 {
         u8::from(self.rounds)
