@@ -3,7 +3,7 @@ use Rattle.std.proofs.Common.{◌≡◌, ℕ, zero, suc, ◌+◌, ◌-◌, ◌*�
 use lib.Lanes.{zip2}
 use lib.Bits.{bit_xor, xor_assoc, xor_self, xor_zero_r}
 use borrow.Rule.Slice.PartMut.{put_mid}
-use Rattle.std.proofs.lemmas.List.{append-nil, take_all, drop_all, take_at, drop_at, drop-drop, length-take-le, length-drop, length-append, take-append-drop, ext_get_or}
+use Rattle.std.proofs.lemmas.List.{append-nil, take_all, drop_all, take_at, drop_at, drop-drop, length-take-le, length-drop, ext_get_or}
 use Rattle.std.proofs.Math.Seq.{drop-nil}
 use Rattle.stream.specs.Stream.{run, masked}
 

@@ -97,6 +97,9 @@ pub fn xor_blocks<B: Blocks>(blocks: &B, place: u32, buf: &mut [u8]) -> Result<(
     if place > PLACES || buf.len() > (PLACES - place) as usize {
         return Err(Refusal::PastStream);
     }
+    if buf.is_empty() {
+        return Ok(());
+    }
     let start = place as usize;
     let end = start + buf.len();
     xor_bytes(buf, &blocks.block(place / 64)[start % 64..]);
