@@ -6,7 +6,7 @@
 
 #![tactic(auto)]
 
-ghost use Rattle.std.specs.Prelude.{ℕ, List, IfOk};
+ghost use Rattle.std.specs.Prelude.{◌≡◌, ℕ, List, ◌++◌, IfOk};
 ghost use Rattle.columns.specs.Answer.{Answers};
 ghost use Rattle.columns.specs.Spelling.{Spells, SpellsField};
 
@@ -31,16 +31,27 @@ struct Sample {
     bytes: Vec<u8>,
 }
 
-// The bytes that a text spells in hexadecimal, with small letters.
-fn decode(heap: Global, text: &str) -> anyhow::Result<Vec<u8>>
-    ensures { IfOk result (λ bytes. Spells text.now bytes.items) }
+// Appends the bytes that a text spells in hexadecimal, with small letters. They
+// are read where they stay, so that a long text is not held twice.
+fn append(bytes: &mut Vec<u8>, text: &str) -> anyhow::Result<()>
+    ensures { IfOk result (λ _. (added : List ℕ) × Spells text.now added × (bytes.new.items ≡ bytes.old.items ++ added)) }
 {
     let (pairs, odd) = text.as_bytes().split_at(text.len() / 2 * 2);
-    let mut bytes = vec![in heap; 0u8; pairs.len() / 2]?;
-    read_hex(pairs, &mut bytes).context("no hexadecimal digit")?;
+    let at = bytes.len();
+    bytes.resize(at + pairs.len() / 2, 0)?;
+    read_hex(pairs, &mut bytes[at..]).context("no hexadecimal digit")?;
     if !odd.is_empty() {
         return Err(anyhow!("an odd number of digits"));
     }
+    Ok(())
+}
+
+// The bytes that a text spells.
+fn decode(heap: Global, text: &str) -> anyhow::Result<Vec<u8>>
+    ensures { IfOk result (λ bytes. Spells text.now bytes.items) }
+{
+    let mut bytes = Vec::new(heap);
+    append(&mut bytes, text)?;
     Ok(bytes)
 }
 
@@ -54,14 +65,22 @@ pub fn decode_field(heap: Global, text: &str) -> anyhow::Result<Vec<u8>>
     }
 }
 
-// Appends what one word of a sample stands for.
-fn append_word(heap: Global, bytes: &mut Vec<u8>, word: &str) -> anyhow::Result<()> {
-    let (count, digits) = match word.split_once('*') {
-        Some((count, digits)) => (count.parse::<usize>()?, digits),
-        None => (1, word),
+// Appends what one word of a sample stands for. What repeats is read once, and
+// not at all where it stands no time.
+fn append_word(bytes: &mut Vec<u8>, word: &str) -> anyhow::Result<()> {
+    let Some((count, digits)) = word.split_once('*') else {
+        return append(bytes, word);
     };
-    for _ in 0..count {
-        bytes.extend_from_slice(&decode(heap, digits)?)?;
+    let count = count.parse::<usize>()?;
+    let start = bytes.len();
+    if count > 0 {
+        append(bytes, digits)?;
+    }
+    let end = bytes.len();
+    if start < end {
+        for _ in 1..count {
+            bytes.extend_from_within(start..end)?;
+        }
     }
     Ok(())
 }
@@ -71,7 +90,7 @@ fn parse_sample(heap: Global, text: &str) -> anyhow::Result<Sample> {
     let column = words.next().context("no column")?.parse::<usize>()?;
     let mut bytes = Vec::new(heap);
     for word in words {
-        append_word(heap, &mut bytes, word)?;
+        append_word(&mut bytes, word)?;
     }
     Ok(Sample { column, bytes })
 }
