@@ -5,6 +5,7 @@ use Rattle.std.proofs.ByRecursion.{All-get_or, All-more}
 use Rattle.std.proofs.lemmas.List.{length-drop, get_or-drop, take_all, drop-drop, take-append-drop, take_more, take_more_set, drop-set-lt}
 use Rattle.kinds.specs.Limits.{most_items}
 use Rattle.kinds.specs.Text.{lines, ColumnOf, Good, items_of, Reads, Faulty}
+use Rattle.kinds.proofs.Cut.{lines_some}
 use Rattle.kinds.proofs.Sheets.{good_items, items_good, items_length, items_at}
 
 module _ {X : Type 0} (reading : List ℕ → Option X) (t : List ℕ) where
@@ -24,6 +25,20 @@ module _ {X : Type 0} (reading : List ℕ → Option X) (t : List ℕ) where
       let e = items_length reading (lines t) g.0 g.1 in
       (g.0, record { items = g.1; few = omega (arith, e, a.few) }, omega (arith, e))
 
+  -- as many good lines as a sheet may have, and one more
+  pub along_many : (count : ℕ) → Along count → count < length (lines t) → count ≡ most_items → Faulty reading t (count + 1) 0
+  along_many count a within full =
+      let z : count + 1 - 1 ≡ count = omega arith in
+      record { first = omega arith; within = omega (arith, within); before = rw z a.good; here = inr (omega arith, refl) }
+
+  -- a line is left where the rest of the text is not empty, and none where it is
+  module _ (count : ℕ) (rest : List ℕ) (comes : lines rest ≡ drop count (lines t)) where
+    pub one_left : 0 < length rest → count < length (lines t)
+    one_left some = omega (arith, lines_some rest some, ap length comes, length-drop count (lines t))
+
+    pub none_left : lines rest ≡ [] → length (lines t) ≤ count
+    none_left none' = omega (arith, ap length (sym comes ∙ none'), length-drop count (lines t))
+
   -- the line at a place, with those after it still to come
   module _ (count : ℕ) (left after : List (List ℕ)) (l : List ℕ) (comes : left ≡ drop count (lines t)) (next : left ≡ l ∷ after) where
     cut : drop count (lines t) ≡ l ∷ after
@@ -37,12 +52,6 @@ module _ {X : Type 0} (reading : List ℕ → Option X) (t : List ℕ) where
 
     pub is_line : get_or (lines t) count [] ≡ l
     is_line = ap (λ n. get_or (lines t) n []) (omega arith) ∙ sym (get_or-drop count (lines t) 0 []) ∙ ap (λ ls. get_or ls 0 []) cut
-
-    -- as many good lines as a sheet may have, and one more
-    pub along_many : Along count → count ≡ most_items → Faulty reading t (count + 1) 0
-    along_many a full =
-        let z : count + 1 - 1 ≡ count = omega arith in
-        record { first = omega arith; within = omega (arith, more); before = rw z a.good; here = inr (omega arith, refl) }
 
     pub along_fault : (c : ℕ) → Along count → count < most_items → (Good reading l → ⊥) → ColumnOf l c → Faulty reading t (count + 1) c
     along_fault c a small bad col =

@@ -64,6 +64,19 @@ first_piece t x rest i e n m some =
 pub piece_cut : (t s x : List ℕ) → s ≡ t → NextLine s 0 x → lines t ≡ x ∷ lines (take (length t - length x) (drop (length x) t))
 piece_cut t s x is n = subst (λ y. lines y ≡ x ∷ lines (take (length y - length x) (drop (length x) y))) is (n.cut ∙ ap (λ z. x ∷ lines z) (ap (λ k. drop k s) (omega arith) ∙ sym (take_rest s (length x))))
 
+-- a text that is not empty has a line
+onto_some : (b : ℕ) (ls : List (List ℕ)) → 0 < length (onto b ls)
+onto_some b [] = omega arith
+onto_some b (l ∷ ls) = omega arith
+
+pub lines_some : (t : List ℕ) → 0 < length t → 0 < length (lines t)
+lines_some [] h = absurd (omega arith)
+lines_some (b ∷ t) h = ⊎_elim (λ e. rw (cond-true (eqb b 10) ((b ∷ []) ∷ lines t) (onto b (lines t)) e) (omega arith)) (λ e. rw (cond-false (eqb b 10) ((b ∷ []) ∷ lines t) (onto b (lines t)) e) (onto_some b (lines t))) (cases_Bool (eqb b 10))
+
+pub lines_none : (t : List ℕ) → length t ≡ 0 → lines t ≡ []
+lines_none [] h = refl
+lines_none (b ∷ t) h = absurd (omega (arith, h))
+
 -- the lines joined are the text
 onto_joins : (b : ℕ) (ls : List (List ℕ)) → flat_map (λ l. l) (onto b ls) ≡ b ∷ flat_map (λ l. l) ls
 onto_joins b [] = refl

@@ -82,24 +82,26 @@ pub fn check<K: Kind>(text: &[u8]) -> Result<usize, Refusal>
     ensures one { OneAnswer K.Kind.reading }
     ensures inverse { ReadsItsText K.Kind.lawful K.Kind.line K.Kind.reading }
 {
-    // Counted by hand, since the count is the answer, too.
-    let mut count = 0;
-    for line in (Lines { rest: text }) {
-        if count == MOST_ITEMS {
-            return Err(Refusal::NoSheet {
-                line: count + 1,
-                column: 0,
-            });
-        }
+    let mut lines = Lines { rest: text };
+    for count in 0..MOST_ITEMS {
+        let Some(line) = lines.next() else {
+            return Ok(count);
+        };
         if K::read(line).is_none() {
             return Err(Refusal::NoSheet {
                 line: count + 1,
                 column: fault_column(line),
             });
         }
-        count += 1;
     }
-    Ok(count)
+    // Past the limit any byte is a fault, and no line end is looked for.
+    if lines.rest.is_empty() {
+        return Ok(MOST_ITEMS);
+    }
+    Err(Refusal::NoSheet {
+        line: MOST_ITEMS + 1,
+        column: 0,
+    })
 }
 
 // Puts the items of a text into the places, from the first, and answers how
