@@ -144,6 +144,7 @@ impl Kind for Job {
 }
 
 // The point of a line of this pattern; nothing exactly where there is none, if the pattern has two numbers.
+#[inline(always)]
 fn read_point(pattern: &Pattern<'_>, text: &[u8]) -> Option<Point>
     requires { length pattern.now.ranges.now ≡ 2 }
     ensures { MatchOption result (fitting pattern.now.text.now pattern.now.ranges.now ≡ true → (to : Point) → Makes pattern.now.text.now pattern.now.ranges.now text.now (to.x ∷ to.y ∷ []) → ⊥) (λ to. Makes pattern.now.text.now pattern.now.ranges.now text.now (to.x ∷ to.y ∷ [])) }

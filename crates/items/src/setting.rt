@@ -107,6 +107,7 @@ impl Kind for Setting {
 
 // The number of a line of a pattern that has no other; nothing exactly where
 // there is none, if the pattern has just that one.
+#[inline(always)]
 fn read_lone(pattern: &Pattern<'_>, text: &[u8]) -> Option<u16>
     requires { (range : Range) × (pattern.now.ranges.now ≡ range ∷ []) × (int_le (pos 0) range.low ≡ true) × (int_le range.high (pos 65535) ≡ true) }
     ensures { MatchOption result (fitting pattern.now.text.now pattern.now.ranges.now ≡ true → (n : ℕ) → Makes pattern.now.text.now pattern.now.ranges.now text.now (pos n ∷ []) → ⊥) (λ n. Makes pattern.now.text.now pattern.now.ranges.now text.now (pos n ∷ [])) }

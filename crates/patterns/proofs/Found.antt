@@ -9,8 +9,6 @@ use Rattle.shape.proofs.Fronts.{leading_found, leading_some}
 use Rattle.patterns.specs.declared.Range.{Range}
 use Rattle.patterns.specs.Pattern.{spelt, within, in_ranges, Makes, figure, fitting, ReadsPattern}
 use Rattle.std.specs.Bool.{then_some}
-use Rattle.std.specs.Str.{bytes_eq}
-use Rattle.std.proofs.lemmas.Slice.Eq.{bytes_eq-Decides}
 use Rattle.patterns.specs.Steps.{NextValue}
 use Rattle.patterns.proofs.Spell.{spelt_byte, within_in_range}
 
@@ -78,13 +76,6 @@ number_to p r rs l v n ws o w k = (and_from (within r v) (in_ranges rs ws) w k.0
 number_parts : (p : List ℕ) (r : Range) (rs : List Range) (l : List ℕ) (vs : List ℤ) → Makes (35 ∷ p) (r ∷ rs) l vs → (v : ℤ) × (ws : List ℤ) × (within r v ≡ true) × (in_ranges rs ws ≡ true) × (l ≡ digits v ++ spelt p ws)
 number_parts p r rs l [] k = absurd (false≢true k.0)
 number_parts p r rs l (v ∷ ws) k = let q = and_parts (within r v) (in_ranges rs ws) k.0 in (v, ws, q.0, q.1, sym k.1)
-
--- a byte at the front of the line, as the code tests it
-pub prefix_here : (l m : List ℕ) (b : ℕ) → l ≡ b ∷ m → bytes_eq (take 1 l) (b ∷ []) ≡ false → ⊥
-prefix_here l m b e k = both_ways (bytes_eq (take 1 l) (b ∷ [])) k ((bytes_eq-Decides (take 1 l) (b ∷ [])).1 (ap (take 1) e))
-
-pub prefix_cut : (l m : List ℕ) (b : ℕ) → bytes_eq (take 1 l) (b ∷ []) ≡ true → m ≡ drop 1 l → l ≡ b ∷ m
-prefix_cut l m b k e = sym (take-append-drop 1 l) ∙ ap₂ ◌++◌ ((bytes_eq-Decides (take 1 l) (b ∷ [])).0 k) (sym e)
 
 -- whether n are left, by the test that nothing came
 pub none_came : {A : Type 0} (P : Type 0) (Q : A → Type 0) (n : ℕ) (r : Option A) (b : Bool) → is_some r ≡ not b → MatchOption r P Q → (P → n ≡ 0) → ((x : A) → Q x → 0 < n) → (b ≡ true → n ≡ 0) × (b ≡ false → n ≡ 0 → ⊥)

@@ -52,7 +52,10 @@ impl<'a> Pattern<'a> {
     }
 
     // The `N` values that make a line, if there are as many ranges; nothing
-    // exactly where no values in the ranges do, if the text fits them.
+    // exactly where no values in the ranges do, if the text fits them. Inlined, so
+    // that a kind's patterns are constants there: else a short line takes half as
+    // long again.
+    #[inline(always)]
     pub fn read<const N: usize>(&self, line: &[u8]) -> Option<[i32; N]>
         ensures { length self.now.ranges.now ≡ N → ReadsPattern self.now.text.now self.now.ranges.now line.now result }
     {
@@ -69,14 +72,20 @@ impl<'a> Pattern<'a> {
                 values[place] = found.value;
                 rest = &rest[found.len..];
             } else {
-                rest = rest.strip_prefix(&[*b])?;
+                let (first, after) = rest.split_first()?;
+                if first != b {
+                    return None;
+                }
+                rest = after;
             }
         }
         (rest.is_empty() && places.next().is_none()).then_some(values)
     }
 }
 
-// The number at the front of `line`, if it is in the range.
+// The number at the front of `line`, if it is in the range. A call of its own: in
+// `read`, which is inlined, it would crowd out what is tried first.
+#[inline(never)]
 fn next_value(range: &Range, line: &[u8]) -> Option<Leading<i32>>
     ensures { NextValue (range.now ∷ []) line.now result }
 {

@@ -1,11 +1,11 @@
-use Rattle.std.proofs.Common.{◌≡◌, length, drop, set, sym, ap, ap₂, ◌∙◌, inl, arith, rules}
+use Rattle.std.proofs.Common.{◌≡◌, ◌∷◌, length, get_or, drop, set, sym, ap, ap₂, ◌∙◌, inl, arith, rules}
 use Rattle.std.proofs.lemmas.List.{nil_from_length, take_rest, length-set, length-replicate}
 use Rattle.std.specs.Iterator.Adapters.{enumerate_source, enumerate_count}
 use Rattle.std.proofs.lemmas.Bool.{eqb-true, eqb-false}
 use Rattle.shape.proofs.Signs.{in_range_kept}
-use Rattle.patterns.proofs.Found.{found_none, found_past, found_missing, found_number, found_other, found_byte, found_whole, found_part, prefix_here, prefix_cut, none_came}
+use Rattle.patterns.proofs.Found.{found_none, found_past, found_missing, found_number, found_other, found_byte, found_whole, found_part, none_came}
 use Rattle.patterns.proofs.Pattern.read.Goals as goal
-use Rattle.patterns.proofs.Pattern.read.Goals.{then-b-eq35+in_ok-place+in_ok-found, else-b-eq35+in_ok-rest, then-is_empty, else-is_empty}
+use Rattle.patterns.proofs.Pattern.read.Goals.{then-b-eq35+in_ok-place+in_ok-found, else-b-eq35+in_ok-first+else-first-b, then-is_empty, else-is_empty}
 
 pub loop-b-init : goal.loop-b-init
 loop-b-init g c =
@@ -25,8 +25,11 @@ bounds-values-place g c = omega (arith, c.loop-b.invariant.0.counted, c.if-self.
 pub offset_bounds-values-place : goal.offset_bounds-values-place
 offset_bounds-values-place g c = search (rules, bounds-values-place g c)
 
-pub returns-in_err-rest : goal.returns-in_err-rest
-returns-in_err-rest g c = λ _. rw c.from_residual-in_err-rest.ensures (found_other _ _ _ _ _ _ _ _ c.loop-b.invariant.0 c.loop-b-test.true c.if-b-eq35.false (λ m e. prefix_here _ m _ e c.in_err-rest.ensures.cases))
+pub returns-in_err-first : goal.returns-in_err-first
+returns-in_err-first g c = λ _. rw c.from_residual-in_err-first.ensures (found_other _ _ _ _ _ _ _ _ c.loop-b.invariant.0 c.loop-b-test.true c.if-b-eq35.false (λ m e. omega (arith, ap length e, c.in_err-first.ensures.cases)))
+
+pub returns-then-first-b : goal.returns-then-first-b
+returns-then-first-b g c = λ _. found_other _ _ _ _ _ _ _ _ c.loop-b.invariant.0 c.loop-b-test.true c.if-b-eq35.false (λ m e. c.if-first-b.true (ap (λ z. get_or z 0 0) (sym c.in_ok-first.ensures.cases.0 ∙ e)))
 
 pub loop-b-preserved : goal.loop-b-preserved
 loop-b-preserved g c =
@@ -39,8 +42,8 @@ loop-b-preserved g c =
           let v : c.if-b-eq35.values ≡ set c.loop-b.values (enumerate_count c.loop-b.places) x.value = w.values-is ∙ ap₂ (set c.loop-b.values) step.1 (in_range_kept x.value y.0.in_range) in
           let left : c.if-b-eq35.rest.now ≡ drop x.len c.loop-b.rest.now = ap (λ l. l.now) w.rest-is ∙ take_rest c.loop-b.rest.now x.len in
           (rw (v, w.places-is, step.2, left) f, ap length v ∙ length-set _ _ _ ∙ c.loop-b.invariant.1)
-      | else-b-eq35+in_ok-rest w ↦
-          let f = found_byte _ _ _ _ _ _ _ _ c.loop-b.invariant.0 c.loop-b-test.true w.if-b-eq35.false w.in_ok-rest.rest.now (prefix_cut _ _ _ w.in_ok-rest.ensures.cases.0 w.in_ok-rest.ensures.cases.1) in
+      | else-b-eq35+in_ok-first+else-first-b w ↦
+          let f = found_byte _ _ _ _ _ _ _ _ c.loop-b.invariant.0 c.loop-b-test.true w.if-b-eq35.false w.in_ok-first.after.now (w.in_ok-first.ensures.cases.0 ∙ ap (λ z. z ∷ w.in_ok-first.after.now) w.if-first-b.false) in
           (rw (w.values-is, w.places-is, w.rest-is) f, ap length w.values-is ∙ c.loop-b.invariant.1)
     ]
 
