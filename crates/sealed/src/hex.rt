@@ -9,7 +9,8 @@ use refusal::Refusal;
 pub(crate) fn is_hex(b: u8) -> bool
     ensures { Decides result (HexDigit b) }
 {
-    matches!(b, b'0'..=b'9' | b'a'..=b'f')
+    // Not `matches!`, which is a branch more for each digit: a line would be read at half the speed.
+    (b'0'..=b'9').contains(&b) || (b'a'..=b'f').contains(&b)
 }
 
 // The digit of a value below 16; `char::from_digit` gives an option of a `char`.
