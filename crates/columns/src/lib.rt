@@ -6,7 +6,7 @@
 
 #![tactic(auto)]
 
-ghost use Rattle.std.specs.Prelude.{◌≡◌, ℕ, List, ◌++◌, IfOk};
+ghost use Rattle.std.specs.Prelude.{◌≡◌, ℕ, ◌≤◌, List, ◌++◌, IfOk};
 ghost use Rattle.columns.specs.Answer.{Answers};
 ghost use Rattle.columns.specs.Spelling.{Spells, SpellsField};
 
@@ -95,22 +95,39 @@ fn parse_sample(heap: Global, text: &str) -> anyhow::Result<Sample> {
     Ok(Sample { column, bytes })
 }
 
+// How many samples there were, and how many of them agree.
+#[derive(Clone, Copy, PartialEq, Eq, Debug)]
+pub struct Tally {
+    pub agree: u64,
+    pub all: u64,
+}
+
+impl Tally {
+    // The tally with one sample more. Past the largest number both stand still.
+    fn with(self, agrees: bool) -> Tally
+        requires { self.agree ≤ self.all }
+        ensures { result.agree ≤ result.all }
+    {
+        let all = self.all.saturating_add(1);
+        let agree = self.agree.saturating_add(u64::from(agrees));
+        Tally { agree, all }
+    }
+}
+
 // Runs a reader over the samples of the input, prints what it answers and says
 // how many agree.
-pub fn run<R: Reader>(rt: &(impl Input + Print + AllocGlobal), reader: &R) -> anyhow::Result<()> {
-    let mut agree = 0u64;
-    let mut all = 0u64;
+pub fn run<R: Reader>(rt: &(impl Input + Print + AllocGlobal), reader: &R) -> anyhow::Result<Tally>
+    ensures { IfOk result (λ t. t.agree ≤ t.all) }
+{
+    let mut tally = Tally { agree: 0, all: 0 };
     for line in rt.lines(rt.alloc()) {
         let sample = parse_sample(rt.alloc(), line?.as_str())?;
         let column = reader.column(&sample.bytes);
         println!(rt; "{column}")?;
-        all = all.wrapping_add(1);
-        if column == sample.column {
-            agree = agree.wrapping_add(1);
-        }
+        tally = tally.with(column == sample.column);
     }
-    println!(rt; "{agree} of {all} agree")?;
-    Ok(())
+    println!(rt; "{} of {} agree", tally.agree, tally.all)?;
+    Ok(tally)
 }
 
 #[cfg(test)]

@@ -19,5 +19,6 @@ impl Reader for Lines {
 }
 
 fn main(rt: HostRuntime) -> anyhow::Result<()> {
-    run(&rt, &Lines)
+    run(&rt, &Lines)?;
+    Ok(())
 }

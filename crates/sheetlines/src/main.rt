@@ -24,5 +24,6 @@ impl Reader for SealedLines {
 }
 
 fn main(rt: HostRuntime) -> anyhow::Result<()> {
-    run(&rt, &SealedLines)
+    run(&rt, &SealedLines)?;
+    Ok(())
 }
