@@ -65,8 +65,8 @@ pub fn decode_field(heap: Global, text: &str) -> anyhow::Result<Vec<u8>>
     }
 }
 
-// Appends what one word of a sample stands for. What repeats is read once, and
-// not at all where it stands no time.
+// Appends what one word of a sample stands for. Digits that repeat are read
+// once, and not at all at a count of 0.
 fn append_word(bytes: &mut Vec<u8>, word: &str) -> anyhow::Result<()> {
     let Some((count, digits)) = word.split_once('*') else {
         return append(bytes, word);
