@@ -6,7 +6,8 @@ use Rattle.std.proofs.lemmas.List.{length-map}
 use Rattle.std.proofs.lemmas.List.Folds.{flat_map-map}
 use Rattle.std.proofs.lemmas.Option.{none-some}
 use Rattle.std.proofs.lemmas.Bool.{false≢true, both_ways, and_parts, and_from, eqb-true, eq-eqb, ltb-true, lt-ltb, cond_both}
-use Rattle.book.specs.Keys.{Slot, key_of, last_of, slot_at, with_last}
+use Rattle.book.specs.declared.Slot.{Slot}
+use Rattle.book.specs.Keys.{last_of, slot_at, with_last}
 use Rattle.book.specs.Book.{Call, Sealing, kind_of, setting, clearing, asking, opening, hits, good_key, key_in, text_of, slot_count, most_bytes, serial_end, Granted, Opened}
 use Rattle.book.specs.Stands.{Agrees, Stands, Noted}
 use Rattle.book.specs.Law.{Seals, OpenLaw, Passes}
@@ -31,15 +32,6 @@ key_within (clearing t ∷ h) s k =
     cond_both (hits t s) None (key_in h s) (λ v. v ≡ Some k → s < slot_count) (λ b _. hit_within t s b) (λ _. key_within h s k)
 key_within (asking t ∷ h) s k = key_within h s k
 key_within (opening l q w n ∷ h) s k = key_within h s k
-
--- a slot with another last serial has its key, and that serial if it has one
-pub key_with_last : (slot : Slot) (n : ℕ) → key_of (with_last slot n) ≡ key_of slot
-key_with_last None n = refl
-key_with_last (Some held) n = refl
-
-pub last_with_last : (slot : Slot) (n : ℕ) (key : List ℕ) → key_of slot ≡ Some key → last_of (with_last slot n) ≡ n
-last_with_last None n key e = absurd (none-some key e)
-last_with_last (Some held) n key e = refl
 
 still : (slot : Slot) (k : Option (List ℕ)) (opened more : ℕ → Type 0) → ((m : ℕ) → more m → ⊥) → Agrees slot k opened → Agrees slot k (λ m. opened m ⊎ more m)
 still slot k opened more never a =
@@ -189,15 +181,14 @@ module _ {X : Type 0} (lawful : X → Bool) (line : X → List ℕ) (number : �
       taken : (h : List Call) → Stands seal slots h → Agrees next (key_in h t) (Opened seal (this ∷ h) t)
       taken h st =
           let later : last_of (at t) < n = p.later in
-          let last : last_of next ≡ n = last_with_last (at t) n key p.key_is in
           let ht = within h st in
           record {
-            key_is = key_with_last (at t) n ∙ (st t).key_is;
+            key_is = (st t).key_is;
             above =
                 λ m q.
                 ⊎_elim (λ e. omega (arith, (st t).above m e))
                 (λ o. omega (arith, (grant_place h t m ht ht o).1)) q;
-            below = λ m q. omega (arith, q.1 n (inr (to_book h st t n key xs p)));
+            below = λ m q. q.1 n (inr (to_book h st t n key xs p));
           }
 
       pub passed_noted : (after : List Slot) → ((s : ℕ) → slot_at after s ≡ cond (hits t s) next (at s)) → Noted seal slots after (this ∷ [])

@@ -1,7 +1,8 @@
 -- How the slots and the book go on together, call by call.
 use Rattle.std.proofs.Common.{◌≡◌, ℕ, Bool, true, false, cond, ◌&&◌, List, [], ◌∷◌, Some, None, Option, sym, refl, subst}
 use Rattle.std.proofs.lemmas.Bool.{true≢false}
-use Rattle.book.specs.Keys.{Slot, key_of, last_of, empty, slot_at}
+use Rattle.book.specs.declared.Slot.{Slot}
+use Rattle.book.specs.Keys.{key_of, last_of, empty, slot_at}
 use Rattle.book.specs.Book.{Sealing, setting, clearing, hits, good_key, key_in, Opened}
 use Rattle.book.specs.Stands.{Agrees, Noted}
 

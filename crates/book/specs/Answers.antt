@@ -3,7 +3,8 @@ use Rattle.std.specs.Prelude.{◌≡◌, ℕ, cond, List, Some, None, Ok, Err, O
 use Rattle.std.specs.Option.{option_map}
 use Rattle.refusal.specs.declared.Refusal.{Refusal}
 use Rattle.refusal.specs.declared.Refusal.TheVariants.{NoSlot, KeyLength}
-use Rattle.book.specs.Keys.{Slot, key_of, last_of}
+use Rattle.book.specs.declared.Slot.{Slot}
+use Rattle.book.specs.Keys.{key_of, last_of}
 use Rattle.book.specs.Book.{slot_count, good_key}
 
 -- a slot above 7

@@ -1,7 +1,8 @@
 -- The law of an opening, by the book alone.
 use Rattle.std.specs.Prelude.{◌≡◌, ℕ, ◌<◌, ◌≤◌, Bool, true, List, ◌++◌, length, drop, is_ok, Some, Ok, Result}
 use Rattle.std.specs.List.{flat_map, AllByRecursion}
-use Rattle.book.specs.Keys.{Slot, key_of, last_of, slot_at}
+use Rattle.book.specs.declared.Slot.{Slot}
+use Rattle.book.specs.Keys.{key_of, last_of, slot_at}
 use Rattle.book.specs.Book.{Call, Sealing, key_in, Fresh, most_items, most_bytes, serial_end}
 
 -- A way of sealing, and a kind: which items are lawful, which line each has,

@@ -1,7 +1,8 @@
 -- What ties the slots of a box to the book: only what carries the proof from
 -- call to call.
 use Rattle.std.specs.Prelude.{◌≡◌, ℕ, ◌<◌, ◌≤◌, List, ◌++◌, Option}
-use Rattle.book.specs.Keys.{Slot, key_of, last_of, slot_at}
+use Rattle.book.specs.declared.Slot.{Slot}
+use Rattle.book.specs.Keys.{key_of, last_of, slot_at}
 use Rattle.book.specs.Book.{Call, Sealing, Above, key_in, Opened}
 
 -- One slot against its part of the book.

@@ -6,7 +6,7 @@ mod key;
 
 ghost use Rattle.std.specs.Prelude.{◌≡◌, ℕ, ◌<◌, ◌≤◌, true, false, ◌&&◌, [], ◌∷◌, length, if◌then◌else◌, Some, None, MatchOption};
 ghost use Rattle.book.specs.Book.{Sealing, setting, clearing, asking, hits, good_key};
-ghost use Rattle.book.specs.Keys.{bytes_of, key_of, last_of, slot_at};
+ghost use Rattle.book.specs.Keys.{bytes_of, key_of, last_of, empty, slot_at};
 ghost use Rattle.book.specs.Stands.{Stands, Noted};
 ghost use Rattle.book.specs.Answers.{set_checks, slot_check, answer, Asked};
 
@@ -42,17 +42,18 @@ impl Key {
     }
 }
 
-// What a slot holds: a key, and the last serial that was opened with it.
+// A slot: its key, if one is set, and the last serial that was opened. The two
+// stand apart: `put` takes a last serial without a key too, and `at` gives it back.
 #[derive(Clone, Copy)]
-pub struct Held {
-    pub key: Key,
+pub struct Slot {
+    pub key: Option<Key>,
     pub last: u32,
 }
 
-// The slots of a box. An empty slot holds nothing.
+// The slots of a box.
 #[derive(Clone, Copy)]
 pub struct Table {
-    pub slots: [Option<Held>; 8],
+    pub slots: [Slot; 8],
 }
 
 // A slot's number is below 8.
@@ -69,22 +70,27 @@ fn check_slot(slot: u8) -> Result<(), Refusal>
 impl Table {
     // Eight empty slots.
     pub fn new() -> Table
-        ensures empty { (s : ℕ) → slot_at result.slots s ≡ None }
+        ensures empty { (s : ℕ) → slot_at result.slots s ≡ empty }
         ensures stands { (seal : Sealing) → Stands seal result.slots [] }
     {
-        Table { slots: [None; 8] }
+        Table {
+            slots: [Slot { key: None, last: 0 }; 8],
+        }
     }
 
-    // What the slot `i` holds: nothing past the eighth.
-    pub fn at(&self, i: u8) -> Option<Held>
+    // The slot `i`: an empty one past the eighth.
+    pub fn at(&self, i: u8) -> Slot
         ensures { result ≡ slot_at self.now.slots i }
     {
-        *self.slots.get(usize::from(i))?
+        self.slots
+            .get(usize::from(i))
+            .copied()
+            .unwrap_or(Slot { key: None, last: 0 })
     }
 
     // Puts a slot into its place, and changes no other; past the eighth
     // nothing changes.
-    pub fn put(&mut self, i: u8, slot: Option<Held>)
+    pub fn put(&mut self, i: u8, slot: Slot)
         ensures { (s : ℕ) → slot_at self.new.slots s ≡ (if hits i s then slot else slot_at self.old.slots s) }
     {
         // By index: of the other slots `get_mut` promises nothing.
@@ -102,18 +108,22 @@ impl Table {
     {
         check_slot(slot)?;
         let key = Key::new(key).ok_or(Refusal::KeyLength)?;
-        self.put(slot, Some(Held { key, last: 0 }));
+        let set = Slot {
+            key: Some(key),
+            last: 0,
+        };
+        self.put(slot, set);
         Ok(())
     }
 
     // Empties a slot.
     pub fn clear(&mut self, slot: u8) -> Result<(), Refusal>
         ensures answer { result ≡ answer (slot_check slot) }
-        ensures after { (s : ℕ) → slot_at self.new.slots s ≡ (if hits slot s then None else slot_at self.old.slots s) }
+        ensures after { (s : ℕ) → slot_at self.new.slots s ≡ (if hits slot s then empty else slot_at self.old.slots s) }
         ensures noted { (seal : Sealing) → Noted seal self.old.slots self.new.slots (clearing slot ∷ []) }
     {
         check_slot(slot)?;
-        self.put(slot, None);
+        self.put(slot, Slot { key: None, last: 0 });
         Ok(())
     }
 
@@ -123,6 +133,7 @@ impl Table {
         ensures noted { (seal : Sealing) → Noted seal self.now.slots self.now.slots (asking slot ∷ []) }
     {
         check_slot(slot)?;
-        Ok(self.at(slot).map(|held| held.last))
+        let slot = self.at(slot);
+        Ok(slot.key.map(|_| slot.last))
     }
 }

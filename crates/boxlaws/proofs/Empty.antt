@@ -5,7 +5,8 @@ use Rattle.refusal.specs.declared.Refusal.TheVariants.{OtherKind, EmptySlot}
 use Rattle.hash.specs.declared.Strength.{Strength}
 use Rattle.stream.specs.Stream.{StreamOf}
 use Rattle.hs1.specs.Checks.{refuse_if, or_else}
-use Rattle.book.specs.Keys.{Slot, empty}
+use Rattle.book.specs.declared.Slot.{Slot}
+use Rattle.book.specs.Keys.{empty}
 use Rattle.keybox.specs.Opening.{first_checks, sheet_text, Answered, LineAnswered}
 use Rattle.boxlaws.specs.Opens.{NoKeyAnswered}
 

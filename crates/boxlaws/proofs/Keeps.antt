@@ -6,7 +6,8 @@ use Rattle.refusal.specs.declared.Refusal.TheVariants.{NoSlot, KeyLength}
 use Rattle.hash.specs.declared.Strength.{Strength}
 use Rattle.stream.specs.Stream.{StreamOf}
 use Rattle.sealed.specs.Line.{LawfulHeader}
-use Rattle.book.specs.Keys.{Slot, last_of, empty}
+use Rattle.book.specs.declared.Slot.{Slot}
+use Rattle.book.specs.Keys.{last_of, empty}
 use Rattle.book.specs.Answers.{set_checks, slot_check}
 use Rattle.book.specs.Book.{Call, KindOf, Sealing, setting, clearing, asking, opening, hits, good_key, key_in, text_of, slot_count, Granted, Opened}
 use Rattle.book.specs.Stands.{Stands}

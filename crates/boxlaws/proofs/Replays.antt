@@ -8,9 +8,9 @@ use Rattle.hash.specs.Strength.{siv_length}
 use Rattle.stream.specs.Stream.{StreamOf}
 use Rattle.sealed.specs.Line.{Parts, Lawful, sealed_line}
 use Rattle.sealed.proofs.Pieces.{one_reading}
-use Rattle.book.specs.Keys.{Slot, with_last, last_of, key_of, empty}
+use Rattle.book.specs.declared.Slot.{Slot}
+use Rattle.book.specs.Keys.{with_last, last_of, key_of, empty}
 use Rattle.book.specs.Book.{slot_count}
-use Rattle.book.proofs.Opens.{key_with_last, last_with_last}
 use Rattle.keybox.specs.Opening.{first_checks, sheet_text, Answered, LineAnswered, SlotsAfter}
 use Rattle.keybox.proofs.Judged.{chain_facts, chain_stale}
 use Rattle.keybox.proofs.Passing.{split_ok}
@@ -29,7 +29,7 @@ module _ {X : Type 0} (f : StreamOf) (s : Strength) (number : ℕ) (reading : Li
       let facts = chain_facts (not (eqb p.kind number)) (key_of slot) (not (ltb (last_of slot) p.serial)) (not (eqb (length p.siv) (siv_length s))) (ltb work (length p.text)) none in
       let later : Slot = with_last slot p.serial in
       ap (λ (x : Slot). first_checks s x number again p) e
-      ∙ chain_stale (not (eqb p.kind number)) (key_of later) facts.1.0 (not (ltb (last_of later) p.serial)) (not (eqb (length p.siv) (siv_length s))) (ltb again (length p.text)) facts.0 (key_with_last slot p.serial ∙ facts.1.1) (ap not (le-ltb (last_of later) p.serial (omega (arith, last_with_last slot p.serial facts.1.0 facts.1.1))))
+      ∙ chain_stale (not (eqb p.kind number)) (key_of later) facts.1.0 (not (ltb (last_of later) p.serial)) (not (eqb (length p.siv) (siv_length s))) (ltb again (length p.text)) facts.0 facts.1.1 (ap not (le-ltb (last_of later) p.serial (omega arith)))
 
   replayed : (work again : ℕ) (before mid after : List X) (n : ℕ) (r : Result ℕ Refusal) → LineAnswered f s slots number work reading l before mid (Ok n) → SlotsAfter l slots next true → LineAnswered f s next number again reading l mid after r → r ≡ Err StaleSerial
   replayed work again before mid after n r first moved second =

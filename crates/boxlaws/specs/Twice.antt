@@ -3,7 +3,7 @@ use Rattle.std.specs.Prelude.{ℕ, List, is_ok, Option, Result}
 use Rattle.refusal.specs.declared.Refusal.{Refusal}
 use Rattle.hash.specs.declared.Strength.{Strength}
 use Rattle.stream.specs.Stream.{StreamOf}
-use Rattle.book.specs.Keys.{Slot}
+use Rattle.book.specs.declared.Slot.{Slot}
 use Rattle.keybox.specs.Opening.{LineAnswered, SlotsAfter}
 
 -- The answer by the slots as they were, and then the answer by the slots and places that the first one left.

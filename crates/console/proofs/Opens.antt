@@ -9,7 +9,7 @@ use Rattle.chacha.specs.Rounds.{chacha_of}
 use Rattle.chacha.specs.Words.{serialised_byte}
 use Rattle.shape.specs.Form.{WellShaped}
 use Rattle.kinds.specs.Text.{Sheet}
-use Rattle.book.specs.Keys.{Slot}
+use Rattle.book.specs.declared.Slot.{Slot}
 use Rattle.book.specs.Book.{Call, opening, kind_of, most_items, most_bytes}
 use Rattle.book.specs.Law.{OpenLaw}
 use Rattle.book.specs.Stands.{Stands, Noted}

@@ -4,7 +4,7 @@ use Rattle.refusal.specs.declared.Refusal.{Refusal}
 use Rattle.hash.specs.declared.Strength.{Strength}
 use Rattle.stream.specs.Stream.{StreamOf}
 use Rattle.sealed.specs.Line.{Parts, Lawful, sealed_line}
-use Rattle.book.specs.Keys.{Slot}
+use Rattle.book.specs.declared.Slot.{Slot}
 use Rattle.book.specs.Book.{Call, opening, kind_of, most_items, most_bytes}
 use Rattle.book.specs.Law.{OpenLaw}
 use Rattle.book.specs.Stands.{Stands, Noted}

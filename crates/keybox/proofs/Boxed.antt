@@ -5,7 +5,8 @@ use Rattle.hash.specs.declared.Strength.{Strength}
 use Rattle.stream.specs.Stream.{StreamOf}
 use Rattle.shape.specs.Form.{WellShaped}
 use Rattle.sealed.specs.Line.{Parts, Lawful, SealedLine, sealed_line}
-use Rattle.book.specs.Keys.{Slot, with_last, empty}
+use Rattle.book.specs.declared.Slot.{Slot}
+use Rattle.book.specs.Keys.{with_last, empty}
 use Rattle.book.specs.Book.{Call, opening, kind_of, hits, slot_count}
 use Rattle.book.specs.Stands.{Stands, Noted}
 use Rattle.book.specs.Law.{OpenLaw}

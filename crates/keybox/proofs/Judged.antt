@@ -1,5 +1,6 @@
 -- The checks of an opening, one after the other.
 use Rattle.std.proofs.Common.{◌≡◌, ℕ, ◌-◌, ◌<◌, ◌≤◌, Bool, true, false, not, List, [], ◌++◌, length, take, drop, Some, None, Err, Option, Result, unwrap_or, sym, refl, ap, ◌∙◌, subst, arith}
+use Rattle.std.specs.Option.{option_map}
 use Rattle.std.proofs.lemmas.List.{take_at}
 use Rattle.std.proofs.lemmas.Bool.{true≢false, false≢true, le-ltb, lt-ltb, eq-eqb, leb-true}
 use Rattle.refusal.specs.declared.Refusal.{Refusal}
@@ -13,8 +14,9 @@ use Rattle.stream.specs.Stream.{StreamOf}
 use Rattle.sealed.specs.Line.{Parts, Lawful, header_of}
 use Rattle.sealed.proofs.Lengths.{longest_header_is}
 use Rattle.sheet.specs.Sheet.{nonce_of}
-use Rattle.book.specs.declared.Held.{Held}
-use Rattle.book.specs.Keys.{Slot, last_of, key_of, bytes_of}
+use Rattle.book.specs.declared.key.Key.{Key}
+use Rattle.book.specs.declared.Slot.{Slot}
+use Rattle.book.specs.Keys.{key_of, bytes_of}
 use Rattle.kinds.specs.Text.{Fills}
 use Rattle.keybox.specs.Opening.{no_key, first_checks, sheet_text, Answered}
 
@@ -35,10 +37,10 @@ module _ (a : Bool) (k : Option (List ℕ)) (x : List ℕ) (b c d : Bool) (ea : 
   pub chain_none : b ≡ false → c ≡ false → d ≡ false → chain a k b c d ≡ None
   chain_none e h w = from_siv e ∙ ap (λ y. or_else (refuse_if y SivLength) (refuse_if d ShortWork)) h ∙ ap (λ y. refuse_if y ShortWork) w
 
-pub passes : (s : Strength) (slot : Slot) (number work : ℕ) (p : Parts) → p.kind ≡ number → (held : Held) → slot ≡ Some held → held.last < p.serial → length p.siv ≡ siv_length s → length p.text ≤ work → first_checks s slot number work p ≡ None
-passes s slot number work p kind held is later long room =
-    chain_none _ (key_of slot) (bytes_of held.key) _ _ _ (ap not (eq-eqb p.kind number kind)) (ap key_of is)
-    (ap not (lt-ltb (last_of slot) p.serial (omega (arith, later, ap last_of is))))
+pub passes : (s : Strength) (slot : Slot) (number work : ℕ) (p : Parts) → p.kind ≡ number → (key : Key) → slot.key ≡ Some key → slot.last < p.serial → length p.siv ≡ siv_length s → length p.text ≤ work → first_checks s slot number work p ≡ None
+passes s slot number work p kind key is later long room =
+    chain_none _ (key_of slot) (bytes_of key) _ _ _ (ap not (eq-eqb p.kind number kind)) (ap (option_map bytes_of) is)
+    (ap not (lt-ltb slot.last p.serial later))
     (ap not (eq-eqb (length p.siv) (siv_length s) long))
     (le-ltb work (length p.text) room)
 
@@ -70,13 +72,13 @@ pub text_there : (cipher before after : List ℕ) (n : ℕ) → n ≡ length cip
 text_there cipher before after n l e = ap (λ m. take m after) (omega (arith, l)) ∙ ap (take (length cipher)) e ∙ take_at cipher _ (length cipher) refl
 
 -- what is unmasked is the text of the sheet
-pub text_is : (f : StreamOf) (s : Strength) (slot : Slot) (held : Held) (p : Parts) (serial : ℕ) (header siv text : List ℕ) → slot ≡ Some held → serial ≡ p.serial → header ≡ header_of p.slot p.kind p.serial → siv ≡ p.siv → text ≡ p.text → sheet_text f s slot p ≡ opened f s (bytes_of held.key) (nonce_of serial) header siv text
-text_is f s slot held p serial header siv text k n h i t =
-    ap (λ o. opened f s (unwrap_or (key_of o) []) (nonce_of p.serial) (header_of p.slot p.kind p.serial) p.siv p.text) k
-    ∙ ap (λ x. opened f s (bytes_of held.key) (nonce_of x) (header_of p.slot p.kind p.serial) p.siv p.text) (sym n)
-    ∙ ap (λ x. opened f s (bytes_of held.key) (nonce_of serial) x p.siv p.text) (sym h)
-    ∙ ap (λ x. opened f s (bytes_of held.key) (nonce_of serial) header x p.text) (sym i)
-    ∙ ap (λ x. opened f s (bytes_of held.key) (nonce_of serial) header siv x) (sym t)
+pub text_is : (f : StreamOf) (s : Strength) (slot : Slot) (key : Key) (p : Parts) (serial : ℕ) (header siv text : List ℕ) → slot.key ≡ Some key → serial ≡ p.serial → header ≡ header_of p.slot p.kind p.serial → siv ≡ p.siv → text ≡ p.text → sheet_text f s slot p ≡ opened f s (bytes_of key) (nonce_of serial) header siv text
+text_is f s slot key p serial header siv text k n h i t =
+    ap (λ o. opened f s (unwrap_or (option_map bytes_of o) []) (nonce_of p.serial) (header_of p.slot p.kind p.serial) p.siv p.text) k
+    ∙ ap (λ x. opened f s (bytes_of key) (nonce_of x) (header_of p.slot p.kind p.serial) p.siv p.text) (sym n)
+    ∙ ap (λ x. opened f s (bytes_of key) (nonce_of serial) x p.siv p.text) (sym h)
+    ∙ ap (λ x. opened f s (bytes_of key) (nonce_of serial) header x p.text) (sym i)
+    ∙ ap (λ x. opened f s (bytes_of key) (nonce_of serial) header siv x) (sym t)
 
 -- the lengths that a lawful sheet has
 pub header_few : (p : Parts) (header : List ℕ) → Lawful p → header ≡ header_of p.slot p.kind p.serial → length header ≤ 46

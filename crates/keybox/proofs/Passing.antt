@@ -13,7 +13,8 @@ use Rattle.kinds.specs.Text.{Fills}
 use Rattle.kinds.proofs.Sheets.{one_answer, reads_its_text}
 use Rattle.sealed.specs.Line.{Parts, Lawful, SealedLine, header_of, sealed_line}
 use Rattle.sealed.proofs.Pieces.{one_reading}
-use Rattle.book.specs.Keys.{Slot, last_of, key_of, empty}
+use Rattle.book.specs.declared.Slot.{Slot}
+use Rattle.book.specs.Keys.{last_of, key_of, empty}
 use Rattle.book.specs.Book.{slot_count}
 use Rattle.book.specs.Law.{Passes}
 use Rattle.sheet.specs.Sheet.{nonce_of, sealed_parts, sheet_line}

@@ -12,7 +12,8 @@ use Rattle.kinds.specs.Text.{Fills}
 use Rattle.sealed.specs.Line.{Parts, Lawful, SealedLine, header_of, sealed_line}
 use Rattle.shape.specs.Column.{Column}
 use Rattle.book.specs.Book.{hits}
-use Rattle.book.specs.Keys.{Slot, key_of, last_of, slot_at, with_last}
+use Rattle.book.specs.declared.Slot.{Slot}
+use Rattle.book.specs.Keys.{key_of, last_of, slot_at, with_last}
 use Rattle.sheet.specs.Sheet.{nonce_of}
 
 -- a slot without a key

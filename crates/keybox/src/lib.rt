@@ -20,7 +20,7 @@ ghost use Rattle.book.specs.Stands.{Stands, Noted};
 ghost use Rattle.sheet.specs.Sheet.{nonce_of, sheet_line};
 ghost use Rattle.keybox.specs.Opening.{first_checks, sheet_text, Answered, LineAnswered, SlotsAfter};
 
-use book::{Held, Key, Table};
+use book::{Key, Slot, Table};
 pub use calls::{Ask, Calls, Clear, Nothing, OneCall, OpenLine, SetKey, Then, open_after};
 use hs1::{Cipher, Context};
 use kinds::{Kind, Tray, load};
@@ -55,7 +55,7 @@ fn unmask<S: Stream>(
 // each refusal leaving the tray as it was.
 fn judge<S: Stream, K: Kind>(
     cipher: &Cipher<S>,
-    slot: Option<Held>,
+    slot: Slot,
     sheet: Unchecked<'_>,
     work: &mut [u8],
     tray: &mut Tray<'_, K::Item>,
@@ -66,9 +66,9 @@ fn judge<S: Stream, K: Kind>(
     if sheet.kind() != K::NUMBER {
         return Err(Refusal::OtherKind);
     }
-    let held = slot.ok_or(Refusal::EmptySlot)?;
+    let key = slot.key.ok_or(Refusal::EmptySlot)?;
     let serial = sheet.serial();
-    if serial <= held.last {
+    if serial <= slot.last {
         return Err(Refusal::StaleSerial);
     }
     let SealedParts { header, siv, text } = sheet.into_parts();
@@ -78,7 +78,7 @@ fn judge<S: Stream, K: Kind>(
     }
     let n = text.decode(work)?;
     let text = &mut work[0..n];
-    unmask(cipher, &held.key, serial, header, siv, text)?;
+    unmask(cipher, &key, serial, header, siv, text)?;
     load::<K>(text, tray)
 }
 
@@ -154,10 +154,10 @@ impl<S: Stream> KeyBox<S> {
         let Label { slot, serial, .. } = sheet.label();
         let held = self.table.at(slot);
         let count = judge::<S, K>(&self.cipher, held, sheet, &mut guard.work[..], tray)?;
-        let next = held.map(|held| Held {
+        let next = Slot {
             last: serial,
             ..held
-        });
+        };
         self.table.put(slot, next);
         Ok(count)
     }

@@ -4,7 +4,8 @@ use Rattle.sealed.specs.Line.{Parts, Lawful, sealed_line}
 use Rattle.sealed.specs.Sheet.{parts_of}
 use Rattle.sealed.proofs.Pieces.{one_reading}
 use Rattle.book.specs.Book.{hits}
-use Rattle.book.specs.Keys.{Slot, slot_at, with_last}
+use Rattle.book.specs.declared.Slot.{Slot}
+use Rattle.book.specs.Keys.{slot_at, with_last}
 use Rattle.keybox.specs.Opening.{SlotsAfter}
 use Rattle.keybox.proofs.Boxed.{unread_noted, unread_law}
 use Rattle.keybox.proofs.KeyBox.open_line.Goals as goal
