@@ -31,13 +31,9 @@ module _ {X : Type 0} (reading : List ℕ → Option X) (t : List ℕ) where
       let z : count + 1 - 1 ≡ count = omega arith in
       record { first = omega arith; within = omega (arith, within); before = rw z a.good; here = inr (omega arith, refl) }
 
-  -- a line is left where the rest of the text is not empty, and none where it is
-  module _ (count : ℕ) (rest : List ℕ) (comes : lines rest ≡ drop count (lines t)) where
-    pub one_left : 0 < length rest → count < length (lines t)
-    one_left some = omega (arith, lines_some rest some, ap length comes, length-drop count (lines t))
-
-    pub none_left : lines rest ≡ [] → length (lines t) ≤ count
-    none_left none' = omega (arith, ap length (sym comes ∙ none'), length-drop count (lines t))
+  -- a line is left where the rest of the text is not empty
+  pub one_left : (count : ℕ) (rest : List ℕ) → lines rest ≡ drop count (lines t) → 0 < length rest → count < length (lines t)
+  one_left count rest comes some = omega (arith, lines_some rest some, ap length comes, length-drop count (lines t))
 
   -- the line at a place, with those after it still to come
   module _ (count : ℕ) (left after : List (List ℕ)) (l : List ℕ) (comes : left ≡ drop count (lines t)) (next : left ≡ l ∷ after) where

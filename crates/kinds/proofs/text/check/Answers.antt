@@ -6,7 +6,7 @@ use Rattle.kinds.specs.Limits.{most_items}
 use Rattle.kinds.specs.Text.{ReadsItsText}
 use Rattle.kinds.proofs.Sheets.{one_answer, reads_its_text}
 use Rattle.kinds.proofs.Cut.{lines_none}
-use Rattle.kinds.proofs.Along.{along_none, along_many, along_all, along_fault, along_next, comes_next, more, one_left, none_left}
+use Rattle.kinds.proofs.Along.{along_none, along_many, along_all, along_fault, along_next, comes_next, more, one_left, all_past}
 use Rattle.kinds.proofs.text.check.Given as given
 use Rattle.kinds.proofs.text.check.Goals as goal
 
@@ -20,7 +20,7 @@ pub returns-in_default : goal.returns-in_default
 returns-in_default g c =
     let i = c.loop-count.invariant in
     record {
-      answer = along_all g.K.Kind.reading c.args.text.now _ i.2 i.1 (none_left g.K.Kind.reading c.args.text.now _ c.loop-count.lines.rest.now i.0 c.in_default.ensures.steps.0);
+      answer = along_all g.K.Kind.reading c.args.text.now _ i.2 i.1 (all_past g.K.Kind.reading c.args.text.now _ _ i.0 c.in_default.ensures.steps.0);
       one = one_answer g.K.Kind.reading;
       inverse = inverse g;
     }
@@ -48,7 +48,7 @@ returns-then-is_empty g c =
     let i = c.loop-count.invariant in
     let rest = c.loop-count.lines.rest.now in
     let full : c.loop-count.count ≡ most_items = omega (arith, i.2.few, c.loop-count-test.false) in
-    let past = none_left g.K.Kind.reading c.args.text.now _ rest i.0 (lines_none rest (grind (arith, nat_tests))) in
+    let past = all_past g.K.Kind.reading c.args.text.now _ _ i.0 (lines_none rest (grind (arith, nat_tests))) in
     let all = along_all g.K.Kind.reading c.args.text.now _ i.2 i.1 past in
     record {
       answer = (all.0, all.1, sym full ∙ all.2);
