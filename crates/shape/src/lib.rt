@@ -17,7 +17,7 @@ ghost use Rattle.shape.specs.Form.{Forms, Tails, Unique, WellShaped};
 ghost use Rattle.shape.specs.Outcome.{Outcome};
 
 pub use scan::literal;
-use scan::{number, run};
+use scan::{letters, number};
 pub use value::{
     LARGEST, Leading, figure_count, leading_number, number_len, read_number, write_figures,
     write_number,
@@ -54,14 +54,13 @@ fn form(s: &[u8], depth: u8) -> Result<usize, usize>
     let [b'(', rest @ ..] = s else {
         return Err(0);
     };
-    let word = run(rest, b'a', b'z', MOST_LETTERS);
+    let word = letters(rest);
     if word == 0 {
         return Err(1);
     }
     let start = 1 + word;
-    arguments(&s[start..], depth - 1)
-        .map(|n| start + n)
-        .map_err(|n| start + n)
+    let n = arguments(&s[start..], depth - 1).map_err(|n| start + n)?;
+    Ok(start + n)
 }
 
 // Reads arguments up to the bracket that closes their form; a form among them
@@ -78,10 +77,11 @@ fn arguments(s: &[u8], depth: u8) -> Result<usize, usize>
             _ => return Err(at),
         };
         let next = at + 1;
-        let argument = match number(rest) {
-            Err(0) if depth > 0 => form(rest, depth),
-            answer => answer,
+        // Each arm goes its own way: with one `?` after them all, lines of forms take half as long again.
+        at = match number(rest) {
+            Ok(n) => next + n,
+            Err(n) if n > 0 || depth == 0 => return Err(next + n),
+            Err(_) => next + form(rest, depth).map_err(|n| next + n)?,
         };
-        at = next + argument.map_err(|n| next + n)?;
     }
 }

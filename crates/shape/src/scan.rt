@@ -1,13 +1,16 @@
 //! The pieces of a line: how far the bytes at the front go as one.
 
 ghost use Rattle.std.specs.Prelude.{◌≤◌};
-ghost use Rattle.shape.specs.Form.{Digit, Number};
+ghost use Rattle.shape.specs.Form.{Digit, Letter, Number};
+ghost use Rattle.shape.specs.Limits.{most_letters};
 ghost use Rattle.shape.specs.Outcome.{Is, Outcome};
 ghost use Rattle.shape.specs.Token.{Runs, Shares, Token, allowed_digits};
 
-use crate::MOST_DIGITS;
+use crate::{MOST_DIGITS, MOST_LETTERS};
 
 // How long the number at the front of `s` is; `Err` for as much as could begin one.
+// Inlined into both of its callers: by a call a line of short numbers takes twice the time.
+#[inline(always)]
 pub(crate) fn number(s: &[u8]) -> Result<usize, usize>
     ensures { Token Number s.now result }
 {
@@ -34,8 +37,16 @@ fn unsigned(s: &[u8]) -> usize
     run(s, b'0', b'9', most)
 }
 
+// How many letters at the front of `s` can be those of one word. The line is cut first, which is
+// faster here: else each of the eight letters is a piece of code of its own.
+pub(crate) fn letters(s: &[u8]) -> usize
+    ensures { Runs Letter most_letters s.now result }
+{
+    run(&s[..MOST_LETTERS.min(s.len())], b'a', b'z', MOST_LETTERS)
+}
+
 // How many bytes at the front of `s` lie between `low` and `high`, counted up to `most`.
-pub(crate) fn run(s: &[u8], low: u8, high: u8, most: usize) -> usize
+fn run(s: &[u8], low: u8, high: u8, most: usize) -> usize
     ensures { Runs (λ b. (low ≤ b) × (b ≤ high)) most s.now result }
 {
     s.iter()

@@ -60,7 +60,16 @@ pub(crate) fn read_value(s: &[u8], low: u32, high: u32) -> Result<Leading<u32>, 
 fn hex_run(s: &[u8], most: usize) -> usize
     ensures { Runs HexDigit most s.now result }
 {
-    s.iter().take(most).take_while(|b| is_hex(**b)).count()
+    hex_front(&s[..most.min(s.len())])
+}
+
+// How many bytes at the front of `s` are hexadecimal digits. A function of its own, with no limit
+// but the end of `s`: else each digit takes up to twice the time.
+#[inline(never)]
+fn hex_front(s: &[u8]) -> usize
+    ensures { Runs HexDigit (length s.now) s.now result }
+{
+    s.iter().take_while(|b| is_hex(**b)).count()
 }
 
 // A line, and the place up to which it was read, which a fault answers.
