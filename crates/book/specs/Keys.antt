@@ -16,7 +16,7 @@ key_of slot = option_map bytes_of slot.key
 abbrev pub last_of : Slot → ℕ
 last_of slot = slot.last
 
--- a slot with no key
+-- a slot with no key, from which no serial was opened
 abbrev pub empty : Slot
 empty = record { key = None; last = 0 }
 
